@@ -1,4 +1,4 @@
--- The check accepts exactly the bytes that are laid out as an image. Assumes nothing.
+-- The check accepts exactly the bytes that are laid out as an image.
 use mathlib.Core.Path.{_≡_, refl, sym, ap, ap₂, subst, _∙_}
 use mathlib.Core.Bool.{Bool, true, false, cond}
 use mathlib.Core.List.{List, [], _∷_, _++_}

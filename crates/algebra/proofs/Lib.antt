@@ -1,0 +1,11 @@
+pub mod Ring
+pub mod Powers
+pub mod Computed
+pub mod Sums
+pub mod Vandermonde
+pub mod Cauchy
+pub mod Matrix
+pub mod Polynomials
+pub mod Reach
+pub mod Modulars
+pub mod Codes

@@ -1,0 +1,10 @@
+pub mod Algebra
+pub mod Below
+pub mod Sum
+pub mod Signature
+pub mod Cauchy
+pub mod Theorems
+pub mod Arithmetic
+pub mod Polynomial
+pub mod Modular
+pub mod Code

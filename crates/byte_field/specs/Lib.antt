@@ -1,0 +1,3 @@
+pub mod Product
+pub mod Laws
+pub mod Meaning
