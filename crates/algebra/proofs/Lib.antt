@@ -1,3 +1,4 @@
+pub mod Cases
 pub mod Ring
 pub mod Powers
 pub mod Computed

@@ -8,7 +8,8 @@ use native.Mathlib.Omega.{arith}
 use lib.Dec.{T-not, eqb, eqb-refl, ltb}
 use borrow.Author.Tests.{ltb-true, ltb-false}
 use Rattle.algebra.specs.Modular.{Prime, inverse-by}
-use Rattle.algebra.proofs.Computed.{below, by-cases}
+use Rattle.algebra.proofs.Cases.{by-cases}
+use Rattle.algebra.proofs.Computed.{below}
 
 pub mod-mul : (a b p : ℕ) → a % p * b % p ≡ a * b % p
 mod-mul a b p = sym (mul-add-mod-self-right (a / p * b) p (a % p * b)) ∙ (let e : a / p * b * p + a % p * b ≡ a * b = omega (arith, ap (λ s. s * b) (div-add-mod' a p)) in ap (λ s. s % p) e)

@@ -20,6 +20,8 @@ pub trait Field: Copy {
 
     ghost meaning: { Self → Below size };
 
+    ghost symbol: { ℕ → Self };
+
     fn zero() -> Self
         ensures { λ r. ⌜ meaning r ≡ algebra .zer ⌝ };
 
@@ -53,7 +55,8 @@ pub trait Field: Copy {
 
     // The element of a number, where there is one.
     fn numbered(number: usize) -> Option<Self>
-        ensures { λ r. ⌜ mapped meaning r ≡ numbered algebra number ⌝ };
+        ensures value { λ r. ⌜ r ≡ cond (ltb number (algebra .size)) (Some (symbol number)) None ⌝ }
+        ensures meant { λ r. ⌜ mapped meaning r ≡ numbered algebra number ⌝ };
 
     fn number(self) -> usize
         ensures { λ r. ⌜ r ≡ algebra .number (meaning self) ⌝ };
@@ -117,7 +120,8 @@ pub trait CodedField: Field {
 
     // The element that the bytes code, where they code one.
     fn decode(from: &[u8]) -> Option<Self>
-        ensures { λ r. ⌜ mapped (λ x. Self·Field .algebra .number (Self·Field .meaning x)) r ≡ decoded width (Self·Field .algebra .size) (now (from .entry)) ⌝ }
+        ensures value { λ r. ⌜ r ≡ mapped (Self·Field .symbol) (decoded width (Self·Field .algebra .size) (now (from .entry))) ⌝ }
+        ensures meant { λ r. ⌜ mapped (λ x. Self·Field .algebra .number (Self·Field .meaning x)) r ≡ decoded width (Self·Field .algebra .size) (now (from .entry)) ⌝ }
     {
         if from.len() != Self::code_width() {
             return None;

@@ -51,3 +51,7 @@ byte-algebra = field-of byte-arithmetic
 -- the element that a byte stands for
 abbrev pub byte-meaning : Byte → Below 256
 byte-meaning b = element byte-arithmetic (b .0)
+
+-- the byte of a number
+abbrev pub byte-symbol : ℕ → Byte
+byte-symbol v = record { 0 = v }

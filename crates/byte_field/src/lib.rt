@@ -1,7 +1,7 @@
 // The field of 256 elements: bytes, with XOR for the sum and polynomials modulo 0x11D for the product.
 ghost use mathlib.Core.Path.{_≡_};
 ghost use Rattle.byte_field.specs.Product.{_·_, by-x, inverse};
-ghost use Rattle.byte_field.specs.Meaning.{byte-algebra, byte-meaning};
+ghost use Rattle.byte_field.specs.Meaning.{byte-algebra, byte-meaning, byte-symbol};
 use algebra::CodedField;
 use algebra::Field;
 
@@ -53,6 +53,8 @@ pub impl Field for Byte as ByteField {
     ghost algebra = { byte-algebra };
 
     ghost meaning = { byte-meaning };
+
+    ghost symbol = { byte-symbol };
 
     fn zero() -> Byte {
         Byte(0)

@@ -1,9 +1,10 @@
 -- The counter field: whole numbers modulo the prime 65,537, α = 3 and the reach is 4,096.
 use mathlib.Core.Path.{refl}
+use mathlib.Core.Bool.{cond}
 use Prim.Native.Nat.{ℕ, _+_, _-_, _*_, _%_}
 use native.Mathlib.Nat.{add-comm, add-zero, mul-comm, mul-one, mod-lt, mod-eq-of-lt}
 use native.Mathlib.Omega.{arith}
-use lib.Dec.{lit<}
+use lib.Dec.{lit<, eqb}
 use Rattle.algebra.specs.Algebra.{Field}
 use Rattle.algebra.specs.Arithmetic.{Arithmetic, with-reach, field-of, element}
 use Rattle.algebra.specs.Below.{Below}
@@ -58,3 +59,7 @@ counter-number Top = 65536
 -- the element that a symbol stands for
 abbrev pub counter-meaning : Counter → Below 65537
 counter-meaning c = element counter-arithmetic (counter-number c)
+
+-- the symbol of a number
+abbrev pub counter-symbol : ℕ → Counter
+counter-symbol v = cond (eqb v 65536) Top (Low v)

@@ -2,7 +2,7 @@
 ghost use mathlib.Core.Path.{_≡_};
 ghost use Prim.Native.Nat.{_<_, _%_};
 ghost use Rattle.algebra.specs.Modular.{modular-inverse};
-ghost use Rattle.counter_field.specs.Meaning.{counter-algebra, counter-meaning, counter-number};
+ghost use Rattle.counter_field.specs.Meaning.{counter-algebra, counter-meaning, counter-number, counter-symbol};
 use algebra::CodedField;
 use algebra::Field;
 
@@ -29,7 +29,8 @@ impl Counter {
     }
 
     fn reduced(value: u64) -> Counter
-        ensures { λ r. ⌜ counter-number r ≡ value % 65537 ⌝ }
+        ensures value { λ r. ⌜ r ≡ counter-symbol (value % 65537) ⌝ }
+        ensures number { λ r. ⌜ counter-number r ≡ value % 65537 ⌝ }
     {
         let rest = value % 65_537;
         if rest == 65_536 {
@@ -60,6 +61,8 @@ pub impl Field for Counter as CounterField {
     ghost algebra = { counter-algebra };
 
     ghost meaning = { counter-meaning };
+
+    ghost symbol = { counter-symbol };
 
     fn zero() -> Counter {
         Counter::Low(0)

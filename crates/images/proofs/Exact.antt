@@ -2,10 +2,10 @@
 use mathlib.Core.Path.{_≡_, refl, sym, ap, ap₂, subst, _∙_}
 use mathlib.Core.Bool.{Bool, true, false, cond}
 use mathlib.Core.List.{List, [], _∷_, _++_}
-use Prim.Native.Nat.{ℕ, _+_, _*_, _≤_}
+use Prim.Native.Nat.{ℕ, _+_, _*_, _<_, _≤_}
 use native.Mathlib.Nat.{mul-add, mul-one}
 use native.Mathlib.Omega.{arith}
-use lib.Dec.{eqb, ltb}
+use lib.Dec.{eqb, ltb, lit<}
 use lib.ListN.{length, getD, take, drop, length-append, length-take, length-drop}
 use borrow.Author.Tests.{eqb-true, le-ltb, eq-eqb, ne-eqb}
 use Rattle.std.specs.declared.option.Option.{Option}
@@ -13,6 +13,7 @@ use Rattle.std.specs.declared.option.Option.the-variants.{None, Some}
 use Rattle.std.specs.declared.result.Result.{Result}
 use Rattle.std.specs.declared.result.Result.the-variants.{Ok, Err}
 use Rattle.std.proofs.shelf.Lists.{take-append-drop}
+use Rattle.algebra.proofs.Cases.{by-cases}
 use Rattle.images.specs.declared.FieldKind.{FieldKind}
 use Rattle.images.specs.declared.FieldKind.the-variants.{Byte, Counter}
 use Rattle.images.specs.declared.Head.{Head}
@@ -20,10 +21,6 @@ use Rattle.images.specs.declared.ImageRefusal.{ImageRefusal}
 use Rattle.images.specs.declared.ImageRefusal.the-variants.{TooShort, UnknownField, WrongLength}
 use Rattle.images.specs.Image.{field-number, code-width, field-numbered, row-count, place-count, image-length, head-of, long-enough, of-field, checked}
 use Rattle.images.specs.Layout.{Image, Exactly-the-images}
-
-by-cases : {P : Type 0} (b : Bool) → (b ≡ true → P) → (b ≡ false → P) → P
-by-cases true t f = t refl
-by-cases false t f = f refl
 
 numbered : (f : FieldKind) → field-numbered (field-number f) ≡ Some f
 numbered Byte = refl
@@ -106,3 +103,22 @@ image (b₀ ∷ b₁ ∷ b₂ ∷ b₃ ∷ b₄ ∷ b₅ ∷ rest) h e =
 
 pub exactly : (bytes : List ℕ) → Exactly-the-images bytes (checked bytes)
 exactly bytes h = (image bytes h, accepted h bytes)
+
+-- an accepted image has the length of its head
+pub accepted-length : (bytes : List ℕ) (h : Head) → checked bytes ≡ Ok h → length bytes ≡ image-length h
+accepted-length bytes h e =
+    let i = image bytes h e in
+    let s : ℕ = row-count h * place-count h in
+    let l = length-append (i .marks) (i .codes) in
+    let d = mul-add s 1 (code-width (h .field)) in
+    let o = mul-one s in
+    ap length (i .laid-out) ∙ omega (arith, i .one-mark-each, i .one-code-each)
+
+-- the check looks at the length and the first six bytes
+pub same-head : (xs ys : List ℕ) → length xs ≡ length ys → ((j : ℕ) → j < 6 → getD xs j 0 ≡ getD ys j 0) → checked xs ≡ checked ys
+same-head xs ys l e =
+    rw (l, e 0 (lit< tt)) (ap (cond (ltb (length ys) 6) (Err TooShort)) (of-fields (field-numbered (getD ys 0 0))))
+  where
+    of-fields : (o : Option FieldKind) → of-field xs o ≡ of-field ys o
+    of-fields None = refl
+    of-fields (Some f) = rw (l, e 1 (lit< tt), e 2 (lit< tt), e 3 (lit< tt), e 4 (lit< tt), e 5 (lit< tt))

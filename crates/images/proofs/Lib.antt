@@ -1,1 +1,1 @@
-mod Exact
+pub mod Exact
