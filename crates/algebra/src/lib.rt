@@ -6,7 +6,7 @@ ghost use lib.Dec.{eqb, ltb};
 ghost use lib.ListN.{length};
 ghost use Rattle.std.specs.Options.{mapped};
 ghost use Rattle.std.specs.declared.option.Option.the-variants.{None, Some};
-ghost use Rattle.algebra.specs.Algebra.{Field as Algebra, minus, numbered};
+ghost use Rattle.algebra.specs.Algebra.{Field as Algebra, minus, numbered, power};
 ghost use Rattle.algebra.specs.Below.{Below};
 ghost use Rattle.algebra.specs.Code.{code, coded, decoded};
 ghost use Rattle.algebra.specs.Theorems.{Signatures-find-changes, Exactly-one-solution};
@@ -63,6 +63,17 @@ pub trait Field: Copy {
 
     fn equals(self, other: Self) -> bool
         ensures { λ r. ⌜ r ≡ eqb (algebra .number (meaning self)) (algebra .number (meaning other)) ⌝ };
+}
+
+// alpha multiplied so many times.
+pub fn power_of_alpha<F: Field>(exponent: usize) -> F
+    ensures { λ r. ⌜ F·Field .meaning r ≡ power (F·Field .algebra) (F·Field .algebra .α) exponent ⌝ }
+{
+    let mut power = F::one();
+    for _i in 0..exponent {
+        power = F::alpha().product(power);
+    }
+    power
 }
 
 // Writes a number in as many bytes as there are, the highest first. What does not fit is left out.

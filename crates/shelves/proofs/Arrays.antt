@@ -23,19 +23,19 @@ use Rattle.shelves.proofs.Contents.{put-beyond, put-filled, apart}
 use Rattle.algebra.proofs.Cases.{by-cases, and-left, and-right, and-both}
 
 module _ {A : Type 0} where
-  stored-same : (xs : List A) (i : ℕ) (x : A) → i < length xs → stored (set xs i x) i ≡ symbol x
+  pub stored-same : (xs : List A) (i : ℕ) (x : A) → i < length xs → stored (set xs i x) i ≡ symbol x
   stored-same [] i x h = absurd (omega arith)
   stored-same (y ∷ ys) zero x h = refl
   stored-same (y ∷ ys) (suc i) x h = stored-same ys i x (omega arith)
 
-  stored-other : (xs : List A) (i j : ℕ) (x : A) → j ≢ i → stored (set xs i x) j ≡ stored xs j
+  pub stored-other : (xs : List A) (i j : ℕ) (x : A) → j ≢ i → stored (set xs i x) j ≡ stored xs j
   stored-other [] i j x h = refl
   stored-other (y ∷ ys) zero zero x h = absurd (h refl)
   stored-other (y ∷ ys) zero (suc j) x h = refl
   stored-other (y ∷ ys) (suc i) zero x h = refl
   stored-other (y ∷ ys) (suc i) (suc j) x h = stored-other ys i j x (λ e. h (ap suc e))
 
-  stored-is : (xs : List A) (i : ℕ) (d : A) → i < length xs → stored xs i ≡ symbol (getD xs i d)
+  pub stored-is : (xs : List A) (i : ℕ) (d : A) → i < length xs → stored xs i ≡ symbol (getD xs i d)
   stored-is [] i d h = absurd (omega arith)
   stored-is (y ∷ ys) zero d h = refl
   stored-is (y ∷ ys) (suc i) d h = stored-is ys i d (omega arith)

@@ -59,6 +59,16 @@ put-filled rows places old new row place x here is others =
     (λ f. rw (i, f) (others r c i f)))
     (λ o. rw o))
 
+-- each cell after a put inside the sizes
+pub put-cell : {A : Type 0} (s : Contents A) (row place : ℕ) (x : A) (r c : ℕ) → inside s row place ≡ true
+    → after-put s row place x .at r c ≡ cond (eqb r row && eqb c place) (symbol x) (s .at r c)
+put-cell s row place x r c here =
+    by-cases (inside s r c)
+    (λ i. rw i)
+    (λ o. by-cases (eqb r row && eqb c place)
+    (λ t. let q = same-place r c row place t in absurd (both-ways _ o (ap₂ (λ a b. inside s a b) (q .0) (q .1) ∙ here)))
+    (λ f. let h = hole-is _ (s .beyond r c o) in rw (o, f, h)))
+
 -- different rows or places have different indices, row after row
 pub apart : (places r c row place : ℕ) → c < places → place < places → (eqb r row && eqb c place) ≡ false → r * places + c ≢ row * places + place
 apart places r c row place h k f e =

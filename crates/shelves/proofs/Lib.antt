@@ -1,2 +1,2 @@
 pub mod Contents
-mod Arrays
+pub mod Arrays

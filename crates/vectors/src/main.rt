@@ -1,7 +1,4 @@
 // Runs published tables through both fields, and prints for each how many of its lines agree.
-ghost use mathlib.Core.Path.{_≡_};
-ghost use Prim.Native.Nat.{_≤_};
-ghost use Rattle.algebra.specs.Algebra.{power};
 use algebra::Field;
 use byte_field::Byte;
 use byte_field::ByteField;
@@ -25,21 +22,11 @@ enum Table {
     Products,
 }
 
-fn power_of_alpha<F: Field>(exponent: usize) -> F
-    ensures { λ r. ⌜ F·Field .meaning r ≡ power (F·Field .algebra) (F·Field .algebra .α) exponent ⌝ }
-{
-    let mut power = F::one();
-    for _i in 0..exponent {
-        power = F::alpha().product(power);
-    }
-    power
-}
-
 fn log_is<F: Field>(number: usize, exponent: usize) -> bool {
     if number == 0 {
         exponent == 0
     } else {
-        power_of_alpha::<F>(exponent).number() == number
+        algebra::power_of_alpha::<F>(exponent).number() == number
     }
 }
 
@@ -59,7 +46,7 @@ fn product_is<F: Field>(left: usize, right: usize, product: usize) -> bool {
 
 fn agrees<F: Field>(table: Table, line: usize, numbers: &[usize]) -> bool {
     match (table, numbers) {
-        (Table::Powers, [value]) => power_of_alpha::<F>(line).number() == *value,
+        (Table::Powers, [value]) => algebra::power_of_alpha::<F>(line).number() == *value,
         (Table::Logs, [exponent]) => log_is::<F>(line, *exponent),
         (Table::Inverses, [inverse]) => inverse_is::<F>(line, *inverse),
         (Table::InversePairs, [number, inverse]) => inverse_is::<F>(*number, *inverse),

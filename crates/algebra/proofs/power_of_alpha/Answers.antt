@@ -1,7 +1,7 @@
 use mathlib.Core.Path.{_≡_, sym, ap, ap₂, _∙_}
 use native.Mathlib.Numerals.{add-one}
 use Rattle.algebra.specs.Algebra.{power}
-use Rattle.vectors.proofs.power_of_alpha.Needs as need
+use Rattle.algebra.proofs.power_of_alpha.Needs as need
 
 pub loop-i-again : need.loop-i-again
 loop-i-again g c =

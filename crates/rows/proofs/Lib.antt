@@ -1,0 +1,4 @@
+mod Horner
+mod Reading
+mod Combining
+mod Carding

@@ -1,0 +1,15 @@
+pub mod Found
+pub mod Counted
+pub mod Tables
+pub mod Rows
+pub mod Column
+pub mod Working
+pub mod Kept
+pub mod Intake
+pub mod Moves
+pub mod Writing
+pub mod Mend
+pub mod Law
+pub mod Refusals
+pub mod Answered
+pub mod Loops

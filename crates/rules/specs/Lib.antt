@@ -1,0 +1,9 @@
+pub mod Search
+pub mod Codes
+pub mod States
+pub mod Views
+pub mod Calls
+pub mod Updates
+pub mod Promises
+pub mod Twins
+pub mod Exact

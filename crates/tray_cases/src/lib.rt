@@ -1,0 +1,3 @@
+// Tests of a tray's calls over array shelves of both fields.
+#[cfg(test)]
+mod tests;
