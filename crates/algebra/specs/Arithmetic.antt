@@ -34,7 +34,7 @@ pub record Arithmetic (n : ℕ) : Type 0 where
   pub root-nonzero : root ≢ 0
   pub root-powers : Distinct reach (power-by 1 times root)
 
--- the same operations with a longer reach
+-- the same operations with another reach
 abbrev pub with-reach : {n : ℕ} (N : Arithmetic n) (reach : ℕ) → Distinct reach (power-by 1 (N .times) (N .root)) → Arithmetic n
 with-reach N reach distinct = record {
   plus = N .plus;

@@ -10,7 +10,7 @@ pub record Points {A : Type 0} (r : ℕ) (a b : ℕ → A) : Type 0 where
   pub columns : Distinct r b
   pub apart : (i j : ℕ) → i < r → j < r → a i ≢ b j
 
--- a sequence without its first element; one with another first element
+-- a sequence without its first element; one with an element put before it
 abbrev pub after : {A : Type 0} → (ℕ → A) → ℕ → A
 after f i = f (suc i)
 

@@ -4,7 +4,7 @@ use mathlib.Core.Logic.{_≢_}
 use Prim.Native.Nat.{ℕ, zero, suc, _*_, _/_, _%_, _-_, _<_}
 use lib.Dec.{ltb}
 
--- no number between 1 and p divides p
+-- no number between 1 and p divides p: of a p above 1, that p is prime
 abbrev pub Prime : ℕ → Type 0
 Prime p = (a : ℕ) → 1 < a → a < p → p % a ≢ 0
 

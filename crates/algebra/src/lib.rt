@@ -20,6 +20,7 @@ pub trait Field: Copy {
 
     ghost meaning: { Self → Below size };
 
+    // The symbol of a number.
     ghost symbol: { ℕ → Self };
 
     fn zero() -> Self
@@ -103,6 +104,7 @@ pub fn read_code(from: &[u8]) -> Option<usize>
 
 // A field whose elements have a byte code: their numbers in so many bytes, the highest first.
 pub trait CodedField: Field {
+    // The bytes of a code, and the number that names the field in an image.
     ghost width: { ℕ };
 
     ghost kind: { ℕ };

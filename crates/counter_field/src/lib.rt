@@ -41,7 +41,7 @@ impl Counter {
     }
 }
 
-// The inverse, by division with remainder: factor times the value is always rest.
+// The inverse, by division with remainder: factor times the value is always rest, modulo 65,537.
 fn inverted(value: u64) -> u64
     ensures value { λ r. ⌜ r ≡ modular-inverse 65537 (value % 65537) ⌝ }
     ensures bound { λ r. ⌜ r < 65537 ⌝ }

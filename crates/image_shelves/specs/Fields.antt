@@ -18,6 +18,11 @@ byte-image = image-contents 1 1 256 byte-symbol
 abbrev pub counter-image : List ℕ → Contents Counter
 counter-image = image-contents 2 3 65537 counter-symbol
 
+-- A new shelf has the bytes that it was given, with all that stood there.
+pub record Lent (given held : RefT (List ℕ)) : Type 0 where
+  pub bytes : now held ≡ now given
+  pub same : name held ≡ name given
+
 -- What lent bytes hold after a put of the symbol of a number: its mark and its code, and all else as it stood, the head included.
 -- They are still the same bytes of memory.
 pub record Stored (kind width : ℕ) (before : RefT (List ℕ)) (row place v : ℕ) (after : RefT (List ℕ)) : Type 0 where

@@ -2,7 +2,7 @@
 ghost use mathlib.Core.Path.{_≡_};
 ghost use denote.Ref.{now as behind};
 ghost use Rattle.shelves.specs.Contents.{put-answer, after-put};
-ghost use Rattle.image_shelves.specs.Fields.{byte-image, ByteStored};
+ghost use Rattle.image_shelves.specs.Fields.{byte-image, Lent, ByteStored};
 use crate::image_get;
 use crate::image_places;
 use crate::image_put;
@@ -21,7 +21,8 @@ pub struct ByteImage<'a> {
 
 impl<'a> ByteImage<'a> {
     pub fn over(bytes: &'a mut [u8]) -> ByteImage<'a>
-        ensures { λ r. ⌜ byte-image (behind (r .bytes)) ≡ byte-image (now (bytes .entry)) ⌝ }
+        ensures contents { λ r. ⌜ byte-image (behind (r .bytes)) ≡ byte-image (now (bytes .entry)) ⌝ }
+        ensures lent { λ r. ⌜ Lent (bytes .entry) (r .bytes) ⌝ }
     {
         ByteImage { bytes }
     }

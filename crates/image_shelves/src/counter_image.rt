@@ -2,7 +2,7 @@
 ghost use mathlib.Core.Path.{_≡_};
 ghost use denote.Ref.{now as behind};
 ghost use Rattle.shelves.specs.Contents.{put-answer, after-put};
-ghost use Rattle.image_shelves.specs.Fields.{counter-image, CounterStored};
+ghost use Rattle.image_shelves.specs.Fields.{counter-image, Lent, CounterStored};
 use crate::image_get;
 use crate::image_places;
 use crate::image_put;
@@ -21,7 +21,8 @@ pub struct CounterImage<'a> {
 
 impl<'a> CounterImage<'a> {
     pub fn over(bytes: &'a mut [u8]) -> CounterImage<'a>
-        ensures { λ r. ⌜ counter-image (behind (r .bytes)) ≡ counter-image (now (bytes .entry)) ⌝ }
+        ensures contents { λ r. ⌜ counter-image (behind (r .bytes)) ≡ counter-image (now (bytes .entry)) ⌝ }
+        ensures lent { λ r. ⌜ Lent (bytes .entry) (r .bytes) ⌝ }
     {
         CounterImage { bytes }
     }

@@ -155,8 +155,9 @@ module _ {X A : Type 0} (F : Field A) (meaning : X → A) (sizes : Sizes) (befor
     at = λ fit r t. put h .at (fit-now row now-held after h held (put h) fit) r t ∙ row-cell row now-held after h held (put h) fit r t;
   }
 
-  pub all-rows : (after : Contents X) (row : ℕ) → (fits F s ≡ true → row ≡ k s + p s) → Holds F meaning sizes before (below F meaning sizes before row) after → CardsPut F meaning sizes before after
-  all-rows after row last held fit =
+  all-cards : (after : Contents X) (row : ℕ) → (fits F s ≡ true → row ≡ k s + p s) → Holds F meaning sizes before (below F meaning sizes before row) after
+      → fits F s ≡ true → seen-contents meaning after ≡ with-cells s (carded F s) .contents
+  all-cards after row last held fit =
       same-contents (seen-contents meaning after) (with-cells s (carded F s) .contents) (held .rows) (held .places) (λ r t. held .at fit r t ∙ filled-cell r t)
     where
       f : Fitting F s
@@ -185,3 +186,6 @@ module _ {X A : Type 0} (F : Field A) (meaning : X → A) (sizes : Sizes) (befor
               let w : ltb r (before .rows) ≡ true = lt-ltb _ _ (omega (arith, e, f .rows)) in
               let u : ltb t (before .places) ≡ false = rw w at o in
               omega (arith, ltb-false t (before .places) u, f .places)
+
+  pub all-rows : (after : Contents X) (row : ℕ) → (fits F s ≡ true → row ≡ k s + p s) → Holds F meaning sizes before (below F meaning sizes before row) after → CardsPut F meaning sizes before after
+  all-rows after row last held = record { rows = held .rows; places = held .places; cards = all-cards after row last held }

@@ -119,7 +119,8 @@ where
     found
 }
 
-// The first place of the first parity row that does not fit, by parity row and then by place of the block.
+// The first place of the first parity row that does not fit, by parity row and then by place of the block. The parity row is named by its index i, not
+// by its row k + i.
 pub fn first_misfit<S: Shelf>(shelf: &S, sizes: Sizes) -> Option<(usize, usize)>
 where
     S::Symbol: Field,

@@ -77,7 +77,7 @@ verdict-of None (Some c) = Card c
 verdict-of None None = Sound
 
 module _ {X : Type 0} (F : Field X) (s : State X) where
-  -- the symbol at a place, where there is one
+  -- the symbol at a place, and zero where there is none
   abbrev pub symbol-at : ℕ → ℕ → X
   symbol-at row place = symbol-or (F .zer) (cell s row place)
 

@@ -23,7 +23,7 @@ module _ {X A : Type 0} (meaning : X → A) where
     beyond = λ row place e. same-hole (c .at row place) ∙ c .beyond row place e;
   }
 
-  -- a tray of these sizes over a shelf with these contents
+  -- a new tray of these sizes over a shelf with these contents
   abbrev pub seen : Sizes → Contents X → State A
   seen sizes c = new sizes (seen-contents c)
 

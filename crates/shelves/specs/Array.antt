@@ -2,7 +2,8 @@
 use Prim.Native.Nat.{ℕ, _<_}
 use mathlib.Core.Path.{_≡_}
 use lib.ListN.{length, set}
-use denote.Ref.{now, name}
+use mathlib.Core.List.{List}
+use denote.Ref.{RefT, now, name}
 use Rattle.std.specs.declared.option.Option.{Option}
 use Rattle.std.specs.declared.option.Option.the-variants.{None, Some}
 use Rattle.shelves.specs.declared.Placed.the-variants.{Done, Outside}
@@ -16,6 +17,15 @@ module _ {A : Type 0} (s : ArrayShelf A) where
 
   abbrev pub array-spot : ℕ → ℕ → Option ℕ
   array-spot row place = spot-in (s .rows) (s .places) (now (s .symbols)) (now (s .marks)) row place
+
+-- A new shelf has the sizes and the memory that it was given, with all that stood there.
+pub record Lent {A : Type 0} (rows places : ℕ) (symbols : RefT (List A)) (marks : RefT (List ℕ)) (s : ArrayShelf A) : Type 0 where
+  pub same-rows : s .rows ≡ rows
+  pub same-places : s .places ≡ places
+  pub held-symbols : now (s .symbols) ≡ now symbols
+  pub held-marks : now (s .marks) ≡ now marks
+  pub same-symbols : name (s .symbols) ≡ name symbols
+  pub same-marks : name (s .marks) ≡ name marks
 
 -- What the lent memory holds after a put: one symbol and its mark, and all else as it stood. It is still the same memory.
 pub record Stored {A : Type 0} (s : ArrayShelf A) (row place : ℕ) (x : A) (after : ArrayShelf A) : Type 0 where

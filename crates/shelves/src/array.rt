@@ -3,7 +3,7 @@ ghost use mathlib.Core.Path.{_≡_};
 ghost use Prim.Native.Nat.{_<_};
 ghost use lib.ListN.{length, getD};
 ghost use denote.Ref.{now as behind};
-ghost use Rattle.shelves.specs.Array.{array-contents, array-spot, Stored, Aimed};
+ghost use Rattle.shelves.specs.Array.{array-contents, array-spot, Lent, Stored, Aimed};
 ghost use Rattle.shelves.specs.Contents.{put-answer, after-put};
 ghost use Rattle.shelves.specs.Memory.{memory, sized};
 use crate::Got;
@@ -19,6 +19,7 @@ pub struct ArrayShelf<'a, T> {
     marks: &'a mut [u8],
 }
 
+// The symbol at an index within range, so that the list's default does not matter.
 fn read_at<T: Copy>(symbols: &[T], at: usize) -> T
     requires { ⌜ at < length (now symbols) ⌝ }
     ensures { λ r. ⌜ r ≡ getD (now (symbols .entry)) at r ⌝ }
@@ -33,7 +34,8 @@ impl<'a, T: Copy> ArrayShelf<'a, T> {
         symbols: &'a mut [T],
         marks: &'a mut [u8],
     ) -> ArrayShelf<'a, T>
-        ensures { λ r. ⌜ array-contents r ≡ memory rows places (now (symbols .entry)) (now (marks .entry)) ⌝ }
+        ensures contents { λ r. ⌜ array-contents r ≡ memory rows places (now (symbols .entry)) (now (marks .entry)) ⌝ }
+        ensures lent { λ r. ⌜ Lent rows places (symbols .entry) (marks .entry) r ⌝ }
     {
         ArrayShelf {
             rows,

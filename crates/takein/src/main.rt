@@ -1,4 +1,4 @@
-// Reads an image from standard input, and prints what came of taking it in.
+// Reads an image from standard input, and prints its sizes or why it was refused.
 use reports::ReportDisplay;
 use std::error::AnyError;
 use std::io::ReadMethods;

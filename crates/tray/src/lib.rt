@@ -30,7 +30,8 @@ where
 {
     // A new tray: not taken in, its round rests, its sheet is unread.
     pub fn over(shelf: S, sizes: Sizes) -> Tray<S>
-        ensures { λ r. ⌜ state (S·Shelf .contents) (Symbol·Field .meaning) r ≡ seen (Symbol·Field .meaning) sizes (S·Shelf .contents shelf) ⌝ }
+        ensures state { λ r. ⌜ state (S·Shelf .contents) (Symbol·Field .meaning) r ≡ seen (Symbol·Field .meaning) sizes (S·Shelf .contents shelf) ⌝ }
+        ensures shelf { λ r. ⌜ r .shelf ≡ shelf ⌝ }
     {
         Tray {
             shelf,
@@ -43,6 +44,20 @@ where
                 }; 68],
             },
         }
+    }
+
+    // Gives the shelf back, as the calls left it.
+    pub fn into_shelf(self) -> S
+        ensures { λ r. ⌜ r ≡ self .shelf ⌝ }
+    {
+        let Tray {
+            shelf,
+            sizes: _,
+            taken_in: _,
+            round: _,
+            sheet: _,
+        } = self;
+        shelf
     }
 
     fn fits(&self) -> bool

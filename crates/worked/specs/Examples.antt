@@ -36,7 +36,7 @@ module _ {q : ℕ} (F : Field (Below q)) where
   abbrev parity : ℕ → ℕ → ℕ → ℕ
   parity i x y = F .number (combination F 2 (block (x ∷ y ∷ [])) i)
 
--- the example image once it is taken in: two data rows, two parity rows, blocks of three, cards of two
+-- what the example image holds once intake has put its cards: two data rows, two parity rows, blocks of three, cards of two
 abbrev example-rows : List (List ℕ)
 example-rows = (1 ∷ 2 ∷ 3 ∷ 0 ∷ 9 ∷ []) ∷ (4 ∷ 0 ∷ 0 ∷ 4 ∷ 4 ∷ []) ∷ (5 ∷ 2 ∷ 3 ∷ 4 ∷ 13 ∷ []) ∷ (163 ∷ 81 ∷ 247 ∷ 5 ∷ 250 ∷ []) ∷ []
 

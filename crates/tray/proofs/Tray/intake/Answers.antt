@@ -70,4 +70,4 @@ returns g c =
     let whole = sym (holes-seen meaning (g .S·Shelf .contents (c .args .self .now .shelf)) (k s + p s) (n s))
     ∙ ap (λ v. lowest-pair v (n s) (λ r t. is-hole (g .S·Shelf .contents (c .args .self .now .shelf) .at r t))) (sym rows) ∙ sym (c .first-hole .ensures) ∙ c .in-rest .is in
     let none = sym (c .first-misfit .ensures (f .p-high) (f .k-high) (f .enough)) ∙ c .in-rest-first-misfit .is in
-    record { promise = intake-taken F s fit (c .if-self .left) whole none _ (c .put-cards .ensures fit); exact = intake-exact F }
+    record { promise = intake-taken F s fit (c .if-self .left) whole none _ (c .put-cards .ensures .cards fit); exact = intake-exact F }
