@@ -49,7 +49,7 @@ where
 }
 
 // The element of a number, and zero where there is none.
-fn element<F: Field>(number: usize) -> F
+pub fn element<F: Field>(number: usize) -> F
     ensures { number < F.Field.algebra.size → F.Field.meaning result ≡ F.Field.algebra.element number }
 {
     match F::numbered(number) {

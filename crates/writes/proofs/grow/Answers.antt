@@ -1,0 +1,22 @@
+use Rattle.std.proofs.Common.{◌≡◌, ap, ◌∙◌, true, arith, lt-ltb, subst, sym}
+use Rattle.algebra.proofs.Cases.{and_both}
+use Rattle.rules.proofs.Rows.{fitting}
+use Rattle.rules.specs.Views.{seen}
+use Rattle.writes.specs.Steps.{cells-of}
+use Rattle.writes.proofs.Growing.{put-grown, inside-fit}
+use Rattle.writes.proofs.grow.Goals as goal
+
+pub returns : goal.returns
+returns g c sizes =
+    let F = g.S.Symbol.Field.algebra in
+    let meaning = g.S.Symbol.Field.meaning in
+    let before = g.S.Shelf.contents c.args.shelf.now in
+    record {
+      rows = ap (λ v. v.rows) c.put.ensures.after;
+      places = ap (λ v. v.places) c.put.ensures.after;
+      at = λ when r u.
+          ap (λ v. cells-of meaning v r u) c.put.ensures.after
+          ∙ put-grown F (seen meaning sizes before) meaning before c.args.row c.args.place (meaning c.args.change) c.sum-symbol.result
+          (inside-fit F meaning sizes before when.0.fitting c.args.row c.args.place when.0.inside when.1) (when.0.filled c.args.place when.1)
+          (c.sum-symbol.ensures ∙ ap (λ v. F.add v (meaning c.args.change)) c.symbol_at.ensures) r u;
+    }
