@@ -10,6 +10,8 @@ pub mod Moves
 pub mod Writing
 pub mod Mend
 pub mod Law
+pub mod Audits
+pub mod Crosses
 pub mod Refusals
 pub mod Answered
 pub mod Loops

@@ -7,3 +7,5 @@ pub mod Updates
 pub mod Promises
 pub mod Twins
 pub mod Exact
+pub mod Audits
+pub mod Crosses
