@@ -12,6 +12,7 @@ pub mod Mend
 pub mod Law
 pub mod Audits
 pub mod Crosses
+pub mod Writes
 pub mod Refusals
 pub mod Answered
 pub mod Loops

@@ -9,3 +9,4 @@ pub mod Twins
 pub mod Exact
 pub mod Audits
 pub mod Crosses
+pub mod Writes
