@@ -13,6 +13,7 @@ pub mod Law
 pub mod Audits
 pub mod Crosses
 pub mod Writes
+pub mod Rounds
 pub mod Refusals
 pub mod Answered
 pub mod Loops

@@ -10,3 +10,4 @@ pub mod Exact
 pub mod Audits
 pub mod Crosses
 pub mod Writes
+pub mod Rounds
