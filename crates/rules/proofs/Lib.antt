@@ -14,6 +14,7 @@ pub mod Audits
 pub mod Crosses
 pub mod Writes
 pub mod Rounds
+pub mod Parity
 pub mod Refusals
 pub mod Answered
 pub mod Loops

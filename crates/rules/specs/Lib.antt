@@ -11,3 +11,4 @@ pub mod Audits
 pub mod Crosses
 pub mod Writes
 pub mod Rounds
+pub mod Parity
