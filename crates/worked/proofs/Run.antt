@@ -1,5 +1,6 @@
 -- The example's run, step by step.
-use Rattle.std.proofs.Common.{◌≡◌, ℕ, zero, suc, ◌+◌, ◌<◌, true, Some, None, List, [], ◌∷◌, sym, refl, ap, subst, subst₂, inl, inr, arith}
+use Rattle.std.proofs.Common.{◌≡◌, ℕ, zero, suc, ◌+◌, ◌<◌, true, false, Some, None, List, [], ◌∷◌, refl, ap, subst, subst₂, inl, inr, arith}
+use Rattle.std.proofs.lemmas.Bool.{both_ways}
 use Rattle.algebra.specs.Below.{Below}
 use Rattle.algebra.specs.Modular.{inverse-by}
 use Rattle.algebra.specs.Polynomial.{polynomial-product, product-of-bits, remainder}
@@ -8,9 +9,9 @@ use Rattle.byte_field.specs.Product.{◌·◌, squares, inverse}
 use Rattle.rules.specs.Calls.{intake, write, mend, done, mended, refused}
 use Rattle.rules.specs.Promises.{Promise, accepted, did-intake, did_write, did-mend}
 use Rattle.rules.specs.States.{State, unread, cell, fits, sound, unsound-count}
-use Rattle.rules.specs.Twins.{EqualRow, StruckRow, twin-at, holed, takes, stands, Follows, Damage}
+use Rattle.rules.specs.Twins.{EqualRow, StruckRow, twin-at, holed, Takes, takes, stands, Follows, Damage}
 use Rattle.rules.specs.Updates.{carded, written, mended-cells}
-use Rattle.rules.specs.declared.Refusal.TheVariants.{Unsound, TooManyUnsound}
+use Rattle.rules.specs.declared.Refusal.TheVariants.{BadSpan, Unsound, TooManyUnsound}
 use Rattle.rules.specs.declared.Verdict.TheVariants.{Card}
 use Rattle.rules.specs.declared.Round.TheVariants.{Resting}
 use Rattle.shelves.specs.Contents.{Cell, filled}
@@ -18,6 +19,7 @@ use Rattle.rules.proofs.Kept.{Kept}
 use Rattle.rules.proofs.Mend.{refused-many, twin-worked}
 use Rattle.rules.proofs.Refusals.{refusal, unrefused, refused-promise}
 use Rattle.rules.proofs.Rows.{struck-unsound}
+use Rattle.rules.proofs.Writing.{none_over}
 use Rattle.worked.specs.Run.{example-sizes, held, delivered, tray, stocked, rewritten, broken, relieved, first-blocks, blocks, Called, Steps, run, Example-run}
 use Rattle.worked.proofs.Tested.{each, each-true, alike, alike-contents, whole, whole-equal, whole-but, block-struck, card-struck}
 
@@ -77,6 +79,61 @@ wrote = record {
   });
 }
 
+abbrev eight : List (Below 256)
+eight = byte-algebra.element 8 ∷ []
+
+rewritten-fits : fits byte-algebra (tray rewritten) ≡ true
+unfolding ◌·◌ squares inverse polynomial-product product-of-bits remainder inverse-by
+rewritten-fits = refl
+
+rewritten-sound : each 4 (sound byte-algebra (tray rewritten)) ≡ true
+unfolding ◌·◌ squares inverse polynomial-product product-of-bits remainder inverse-by
+rewritten-sound = refl
+
+rewritten-clear : (row : ℕ) → row < 4 → StruckRow byte-algebra blocks (tray rewritten) row → ⊥
+rewritten-clear row l struck =
+    struck-unsound byte-algebra (tray rewritten) blocks row rewritten-fits struck (each-true 4 (sound byte-algebra (tray rewritten)) rewritten-sound row l)
+
+empty-unrefused : refusal byte-algebra (tray rewritten) (write 0 3 []) ≡ None
+unfolding ◌·◌ squares inverse polynomial-product product-of-bits remainder inverse-by
+empty-unrefused = refl
+
+empty-cells : alike 4 5 (cell (tray rewritten)) (held rewritten) ≡ true
+unfolding ◌·◌ squares inverse polynomial-product product-of-bits remainder inverse-by
+empty-cells = refl
+
+none-written : Called blocks (tray rewritten) (write 0 3 []) done (tray rewritten) blocks
+none-written = record {
+  promised =
+      subst (Promise byte-algebra (tray rewritten) (write 0 3 []) done) (tray-holds (cell (tray rewritten)) rewritten empty-cells)
+      (accepted (unrefused byte-algebra (tray rewritten) (write 0 3 []) empty-unrefused) (did_write 0 3 []));
+  followed = subst (Follows byte-algebra blocks (tray rewritten) (write 0 3 [])) (none_over blocks 0 3)
+      (takes 0 3 [] refl (record {
+        of-data = omega arith;
+        spans = refl;
+        row-clear = rewritten-clear 0 (omega arith);
+        parity-clear = λ i l. rewritten-clear (2 + i) (omega arith);
+      }));
+}
+
+-- a write that the twin does not take
+not-taken : (s : State (Below 256)) (row start : ℕ) (xs : List (Below 256)) → (Takes byte-algebra blocks s row start xs → ⊥) → Follows byte-algebra blocks s (write row start xs) blocks
+not-taken s row start xs free = stands (λ r t ys e takes.
+    let rows : r ≡ row = cc in
+    let starts : t ≡ start = cc in
+    let symbols : ys ≡ xs = cc in
+    free (rw (← rows, ← starts, ← symbols) takes))
+
+span-refused : refusal byte-algebra (tray rewritten) (write 0 3 eight) ≡ Some (BadSpan 3)
+unfolding ◌·◌ squares inverse polynomial-product product-of-bits remainder inverse-by
+span-refused = refl
+
+none-beyond : Called blocks (tray rewritten) (write 0 3 eight) (refused (BadSpan 3)) (tray rewritten) blocks
+none-beyond = record {
+  promised = refused-promise byte-algebra (tray rewritten) _ _ span-refused;
+  followed = not-taken (tray rewritten) 0 3 eight (λ takes. both_ways false refl takes.spans);
+}
+
 broken-0 : whole-but 2 5 (cell (tray broken) 0) (twin-at byte-algebra blocks (tray broken) 0) ≡ true
 unfolding ◌·◌ squares inverse polynomial-product product-of-bits remainder inverse-by
 broken-0 = refl
@@ -99,16 +156,14 @@ damaged (suc (suc zero)) l = inl (whole-equal 3 2 (cell (tray broken) 2) (twin-a
 damaged (suc (suc (suc zero))) l = inr (card-struck 3 2 (cell (tray broken) 3) (twin-at byte-algebra blocks (tray broken) 3) 4 broken-3 (omega arith) (omega arith))
 damaged (suc (suc (suc (suc row)))) l = absurd (omega arith)
 
-eight-refused : refusal byte-algebra (tray broken) (write 0 0 (byte-algebra.element 8 ∷ [])) ≡ Some (Unsound 0 (Card 0))
+eight-refused : refusal byte-algebra (tray broken) (write 0 0 eight) ≡ Some (Unsound 0 (Card 0))
 unfolding ◌·◌ squares inverse polynomial-product product-of-bits remainder inverse-by
 eight-refused = refl
 
-not-written : Called blocks (tray broken) (write 0 0 (byte-algebra.element 8 ∷ [])) (refused (Unsound 0 (Card 0))) (tray broken) blocks
+not-written : Called blocks (tray broken) (write 0 0 eight) (refused (Unsound 0 (Card 0))) (tray broken) blocks
 not-written = record {
   promised = refused-promise byte-algebra (tray broken) _ _ eight-refused;
-  followed = stands (λ row start xs e takes.
-      let same : row ≡ 0 = cc in
-      takes.row-clear (subst (StruckRow byte-algebra blocks (tray broken)) (sym same) struck-0));
+  followed = not-taken (tray broken) 0 0 eight (λ takes. takes.row-clear struck-0);
 }
 
 mend-refused : refusal byte-algebra (tray broken) mend ≡ Some (TooManyUnsound 3)
@@ -179,6 +234,8 @@ steps : Steps
 steps = record {
   taken-in = taken-in;
   written = wrote;
+  none-written = none-written;
+  none-beyond = none-beyond;
   damaged = damaged;
   not-written = not-written;
   not-mended = not-mended;

@@ -1,4 +1,4 @@
--- A run of the example image's tray, step by step: intake, a write, damage, refused calls, and a mend.
+-- A run of the example image's tray, step by step: intake, writes, damage, refused calls, and a mend.
 use Rattle.std.specs.Prelude.{◌≡◌, ℕ, ◌<◌, true, List, [], ◌∷◌, Some, None, Option, slice_get, slice_index_or}
 use Rattle.algebra.specs.Below.{Below}
 use Rattle.byte_field.specs.Meaning.{byte-algebra}
@@ -6,7 +6,7 @@ use Rattle.rules.specs.Calls.{Call, intake, write, mend, Answer, done, mended, r
 use Rattle.rules.specs.Promises.{Promise}
 use Rattle.rules.specs.States.{State, new, unread, symbol-at}
 use Rattle.rules.specs.Twins.{overwritten, EqualRow, Follows, Damage, Run, starts, calls, suffers}
-use Rattle.rules.specs.declared.Refusal.TheVariants.{Unsound, TooManyUnsound}
+use Rattle.rules.specs.declared.Refusal.TheVariants.{BadSpan, Unsound, TooManyUnsound}
 use Rattle.rules.specs.declared.Round.TheVariants.{Resting}
 use Rattle.rules.specs.declared.Sizes.{Sizes}
 use Rattle.rules.specs.declared.Verdict.TheVariants.{Card}
@@ -62,6 +62,9 @@ pub record Called (b : ℕ → ℕ → Below 256) (s : State (Below 256)) (c : C
 pub record Steps : Type 0 where
   pub taken-in : Promise byte-algebra delivered intake done (tray stocked)
   pub written : Called first-blocks (tray stocked) (write 0 1 (byte-algebra.element 7 ∷ [])) done (tray rewritten) blocks
+  -- a write at the block's end: of no symbols, and of one
+  pub none-written : Called blocks (tray rewritten) (write 0 3 []) done (tray rewritten) blocks
+  pub none-beyond : Called blocks (tray rewritten) (write 0 3 (byte-algebra.element 8 ∷ [])) (refused (BadSpan 3)) (tray rewritten) blocks
   pub damaged : Damage byte-algebra blocks (tray rewritten) (held broken)
   pub not-written : Called blocks (tray broken) (write 0 0 (byte-algebra.element 8 ∷ [])) (refused (Unsound 0 (Card 0))) (tray broken) blocks
   pub not-mended : Called blocks (tray broken) mend (refused (TooManyUnsound 3)) (tray broken) blocks
@@ -75,7 +78,9 @@ abbrev pub run : Steps → Run byte-algebra blocks (tray rewritten)
 run e =
     let took = starts example-sizes delivered.contents (tray stocked) e.taken-in in
     let wrote = calls took _ _ _ e.written.promised _ e.written.followed in
-    let broke = suffers wrote (held broken) e.damaged in
+    let wrote-none = calls wrote _ _ _ e.none-written.promised _ e.none-written.followed in
+    let refused-span = calls wrote-none _ _ _ e.none-beyond.promised _ e.none-beyond.followed in
+    let broke = suffers refused-span (held broken) e.damaged in
     let refused-write = calls broke _ _ _ e.not-written.promised _ e.not-written.followed in
     let refused-mend = calls refused-write _ _ _ e.not-mended.promised _ e.not-mended.followed in
     let eased = suffers refused-mend (held relieved) e.eased in
