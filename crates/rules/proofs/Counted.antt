@@ -28,7 +28,7 @@ one_of : (b : Bool) → cond b 1 0 + cond (not b) 1 0 ≡ 1
 one_of true = refl
 one_of false = refl
 
-counted_same : (n : ℕ) (f g : ℕ → Bool) → ((i : ℕ) → i < n → f i ≡ g i) → counted n f ≡ counted n g
+pub counted_same : (n : ℕ) (f g : ℕ → Bool) → ((i : ℕ) → i < n → f i ≡ g i) → counted n f ≡ counted n g
 counted_same zero f g e = refl
 counted_same (suc n) f g e = ap₂ (λ c b. c + cond b 1 0) (counted_same n f g λ i h. e i (omega arith)) (e n (omega arith))
 

@@ -18,7 +18,7 @@ use Rattle.rules.proofs.Kept.{Kept, sound-equal, unsound-struck}
 use Rattle.rules.proofs.Mend.{mend-equal, mend-kept}
 use Rattle.rules.proofs.Writing.{write_kept}
 
-sound-is : (v : Verdict) → is-sound v ≡ true → v ≡ Sound
+pub sound-is : (v : Verdict) → is-sound v ≡ true → v ≡ Sound
 sound-is Sound e = refl
 sound-is (Hole place) e = absurd (false≢true e)
 sound-is (Card c) e = absurd (false≢true e)

@@ -10,6 +10,11 @@ pub mod Moves
 pub mod Writing
 pub mod Mend
 pub mod Law
+pub mod Audits
+pub mod Crosses
+pub mod Writes
+pub mod Rounds
+pub mod Parity
 pub mod Refusals
 pub mod Answered
 pub mod Loops

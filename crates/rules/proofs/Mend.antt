@@ -143,7 +143,7 @@ module _ {X : Type 0} (F : Field X) (s : State X) (blocks : ℕ → ℕ → X) (
   twin-block : (row place : ℕ) → row < k s + p s → place < n s → sound F s row ≡ true → cell s row place ≡ symbol (table-block F (k s) blocks row place)
   twin-block row place h l e = (sound-equal F blocks s kept row h).0 e place (omega arith) ∙ ap symbol (table-place F (k s) blocks (n s) row place l)
 
-  twin-worked : Worked F s blocks
+  pub twin-worked : Worked F s blocks
   twin-worked = record {
     keeps = λ j place h l e. twin-block j place (omega arith) l e ∙ ap symbol (block-data F (k s) blocks j place h);
     solves = λ i place h l e. twin-block (k s + i) place (omega arith) l (and_parts _ _ e).0 ∙ ap symbol (block-parity F (k s) blocks i place);

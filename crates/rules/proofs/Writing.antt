@@ -15,16 +15,16 @@ use Rattle.rules.proofs.Kept.{Kept, Unmoved, kept-moved}
 use Rattle.rules.proofs.Moves.{Touched, row-rests, table-moves, table-rests}
 
 module _ {X : Type 0} where
-  one-there : (blocks : ℕ → ℕ → X) (row t : ℕ) (x : X) (j place : ℕ) → (j ≡ row → place ≡ t → ⊥) → overwritten blocks row t (x ∷ []) j place ≡ blocks j place
+  pub one-there : (blocks : ℕ → ℕ → X) (row t : ℕ) (x : X) (j place : ℕ) → (j ≡ row → place ≡ t → ⊥) → overwritten blocks row t (x ∷ []) j place ≡ blocks j place
   one-there blocks row t x j place ne = grind (arith, nat_tests)
 
-  one-here : (blocks : ℕ → ℕ → X) (row t : ℕ) (x : X) → overwritten blocks row t (x ∷ []) row t ≡ x
+  pub one-here : (blocks : ℕ → ℕ → X) (row t : ℕ) (x : X) → overwritten blocks row t (x ∷ []) row t ≡ x
   one-here blocks row t x = let z : t - t ≡ 0 = omega arith in grind (arith, nat_tests)
 
-  none_over : (blocks : ℕ → ℕ → X) (row t : ℕ) → overwritten blocks row t [] ≡ blocks
+  pub none_over : (blocks : ℕ → ℕ → X) (row t : ℕ) → overwritten blocks row t [] ≡ blocks
   none_over blocks row t = fun_ext λ j. fun_ext λ place. grind (arith, nat_tests)
 
-  more-over : (blocks : ℕ → ℕ → X) (row t : ℕ) (x : X) (xs : List X) → overwritten (overwritten blocks row t (x ∷ [])) row (t + 1) xs ≡ overwritten blocks row t (x ∷ xs)
+  pub more-over : (blocks : ℕ → ℕ → X) (row t : ℕ) (x : X) (xs : List X) → overwritten (overwritten blocks row t (x ∷ [])) row (t + 1) xs ≡ overwritten blocks row t (x ∷ xs)
   more-over blocks row t x xs = fun_ext λ j. fun_ext λ place.
       elim (cases_lt t place) [
         | inl more ↦ let z : place - t ≡ suc (place - (t + 1)) = omega arith in grind (arith, nat_tests)
@@ -34,7 +34,7 @@ module _ {X : Type 0} where
   over-rests : (blocks : ℕ → ℕ → X) (row t : ℕ) (xs : List X) (r : ℕ) → r ≢ row → (place : ℕ) → overwritten blocks row t xs r place ≡ blocks r place
   over-rests blocks row t xs r ne place = grind (arith, nat_tests)
 
-spot : (place t n : ℕ) → ((place ≡ t) ⊎ (n ≤ place)) ⊎ ((place < n) × (place ≢ t))
+pub spot : (place t n : ℕ) → ((place ≡ t) ⊎ (n ≤ place)) ⊎ ((place < n) × (place ≢ t))
 spot place t n =
     elim (cases_lt place n) [
       | inl less ↦ elim (cases_eq place t) [ inl e ↦ inl (inl e) | inr ne ↦ inr (less, ne) ]
@@ -73,7 +73,7 @@ module _ {X : Type 0} (F : Field X) (s : State X) (row : ℕ) (h : row < k s) wh
       (clear-all xs (overwritten blocks row t (x ∷ [])) (written_one F s row t x cells) (t + 1) (omega arith) (clear-one blocks cells t x (omega arith) clear))
 
   -- the other data rows stay as they are
-  written-rests : (xs : List X) (cells : ℕ → ℕ → Cell X) (t r : ℕ) → r < k s → r ≢ row → (place : ℕ) → written F s row t xs cells r place ≡ cells r place
+  pub written-rests : (xs : List X) (cells : ℕ → ℕ → Cell X) (t r : ℕ) → r < k s → r ≢ row → (place : ℕ) → written F s row t xs cells r place ≡ cells r place
   written-rests [] cells t r l ne place = refl
   written-rests (x ∷ xs) cells t r l ne place =
       let is : touched s row t r place ≡ false = grind (arith, nat_tests) in

@@ -8,3 +8,8 @@ pub mod Sheets
 pub mod Promises
 pub mod Twins
 pub mod Exact
+pub mod Audits
+pub mod Crosses
+pub mod Writes
+pub mod Rounds
+pub mod Parity

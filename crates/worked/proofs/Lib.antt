@@ -1,0 +1,2 @@
+pub mod Tested
+pub mod Run

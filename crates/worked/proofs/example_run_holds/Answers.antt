@@ -1,0 +1,5 @@
+use Rattle.worked.proofs.Run.{example-run}
+use Rattle.worked.proofs.example_run_holds.Goals as goal
+
+pub returns : goal.returns
+returns c = example-run
