@@ -1,11 +1,12 @@
 // Code that reads a shelf: cards, parity combinations, and the first place where something is wrong.
 #![tactic(auto)]
 
-ghost use Rattle.std.specs.Prelude.{◌≡◌, ℕ, ◌+◌, ◌^◌, ◌<◌, ◌≤◌, true, length, map};
+ghost use Rattle.std.specs.Prelude.{◌≡◌, ℕ, ◌+◌, ◌^◌, ◌<◌, ◌≤◌, true, not, length, map};
+ghost use Rattle.std.specs.Option.{option_map};
 ghost use Rattle.algebra.specs.Theorems.{coefficient as coefficient-of};
 ghost use Rattle.rules.specs.Codes.{component, combination as combination-of, differ};
 ghost use Rattle.rules.specs.Search.{lowest, lowest-pair};
-ghost use Rattle.rules.specs.States.{audited, fits, misfit};
+ghost use Rattle.rules.specs.States.{audited, fits, misfit, sound};
 ghost use Rattle.rules.specs.Updates.{span};
 ghost use Rattle.rules.specs.Views.{element-at, seen};
 ghost use Rattle.shelves.specs.Contents.{is-hole};
@@ -199,6 +200,21 @@ where
         Some(component) => Verdict::Card(component),
         None => Verdict::Sound,
     }
+}
+
+// The lowest parity row that is not sound, by its index, with its verdict.
+pub fn first_unsound_parity<S: Shelf>(shelf: &S, sizes: Sizes) -> Option<(usize, Verdict)>
+where
+    S::Symbol: Field,
+    ensures { fits S.Symbol.Field.algebra (seen S.Symbol.Field.meaning sizes (S.Shelf.contents shelf.now)) ≡ true → result ≡ option_map (λ i. (i, audited S.Symbol.Field.algebra (seen S.Symbol.Field.meaning sizes (S.Shelf.contents shelf.now)) (sizes.data_rows + i))) (lowest sizes.parity_rows (λ i. not (sound S.Symbol.Field.algebra (seen S.Symbol.Field.meaning sizes (S.Shelf.contents shelf.now)) (sizes.data_rows + i)))) }
+{
+    for i in 0..sizes.parity_rows {
+        let verdict = audit(shelf, sizes, sizes.data_rows.saturating_add(i));
+        if !verdict.is_sound() {
+            return Some((i, verdict));
+        }
+    }
+    None
 }
 
 // Copies symbols of a row into a buffer, from a start on.

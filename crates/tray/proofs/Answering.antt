@@ -1,16 +1,19 @@
 -- From what a call tested to its promise.
-use Rattle.std.proofs.Common.{◌≡◌, ◌≢◌, ℕ, ◌+◌, ◌<◌, ◌≤◌, Bool, true, false, not, eqb, ltb, leb, List, length, Some, None, Option, Ok, Err, sym, refl, ap, ◌∙◌, subst, subst₂, ap₂, arith, le-leb, zero-add, set}
-use mathlib.Core.Path.{fun_ext}
+use Rattle.std.proofs.Common.{◌≡◌, ℕ, ◌+◌, ◌<◌, ◌≤◌, Bool, true, false, not, List, length, Some, None, Option, Ok, Err, sym, refl, ap, ◌∙◌, subst, subst₂, ap₂, arith, le-leb, zero-add, set}
 use borrow.Author.Tests.{lt-leb}
+use Rattle.std.specs.Option.{option_map}
+use Rattle.std.specs.Prelude.{map}
+use Rattle.std.proofs.lemmas.Bool.{not-false}
 use Rattle.std.proofs.lemmas.Bool.Decides.{nat_tests}
+use Rattle.std.proofs.lemmas.List.{length-map}
 use Rattle.algebra.specs.Algebra.{Field}
 use Rattle.shelves.specs.Contents.{Contents, is-hole}
-use Rattle.rules.specs.Calls.{Call, fit, intake, audit, read, cross, begin, step, totals, record_of, first, Answer, done, judged, copied, counts, entry-is, lowest-is, refused, wants-intake}
-use Rattle.rules.specs.Promises.{Promise, accepted, did-fit, did-intake, did-audit, did_read, did-cross, did-begin, did-step, did-totals, did-record, did-first}
+use Rattle.rules.specs.Calls.{Call, fit, intake, audit, read, write, cross, begin, step, totals, record_of, first, done, judged, copied, counts, entry-is, lowest-is, refused, wants-intake}
+use Rattle.rules.specs.Promises.{Promise, accepted, did-fit, did-intake, did-audit, did_read, did_write, did-cross, did-begin, did-step, did-totals, did-record, did-first}
 use Rattle.rules.specs.Search.{lowest, lowest-pair, counted}
 use Rattle.rules.specs.Sheets.{entered, turn-answer, turned, next-row}
 use Rattle.rules.specs.States.{State, unread, k, p, n, m, cell, fits, audited, sound, misfit, with-cells}
-use Rattle.rules.specs.Updates.{allowed, carded, span, entry_of, entry-sound, entry-bad, walking, over}
+use Rattle.rules.specs.Updates.{allowed, carded, span, written, entry_of, entry-sound, entry-bad, walking, over}
 use Rattle.rules.specs.declared.Action.TheVariants.{Begin, Step, Totals}
 use Rattle.rules.specs.declared.Refusal.{Refusal}
 use Rattle.rules.specs.declared.Refusal.TheVariants.{DoesNotFit, NotTakenIn, TakenInAlready, NoSuchRow, BadSpan, Unsound, Unreadable, Misfit, WrongPhase, StillWalking}
@@ -18,8 +21,11 @@ use Rattle.rules.specs.declared.Round.{Round}
 use Rattle.rules.specs.declared.Round.TheVariants.{Resting, Walking, Over}
 use Rattle.rules.specs.declared.Sheet.{Sheet}
 use Rattle.rules.specs.declared.Verdict.{Verdict}
-use Rattle.rules.specs.Views.{seen-cell, same-hole}
-use Rattle.rules.proofs.Found.{lowest-pair-alike}
+use Rattle.rules.specs.Views.{seen, seen-cell, same-hole}
+use Rattle.rules.specs.declared.Sizes.{Sizes}
+use Rattle.writes.specs.Steps.{Readable, Writable}
+use Rattle.rules.proofs.Found.{lowest-none, lowest-pair-alike}
+use Rattle.rules.proofs.Rows.{sound-means}
 use Rattle.rules.proofs.Refusals.{unrefused, refused-promise, walks_at}
 
 -- a stretch that starts at place 0
@@ -32,6 +38,36 @@ pub stretch-holes : {X A : Type 0} (meaning : X → A) (held : Contents X) (rows
 stretch-holes meaning held rows rows' start places o all found =
     lowest-pair-alike rows places _ _ (λ r t h l. same-hole meaning (held.at r (start + t)))
     ∙ ap (λ v. lowest-pair v places (λ r t. is-hole (held.at r (start + t)))) (sym all) ∙ sym found
+
+-- what a search found, of an option that also says something of it
+pub found-with : {B : Type 0} (f : ℕ → B) (o : Option ℕ) (i : ℕ) (v : B) → option_map {U = ℕ × B} (λ i. (i, f i)) o ≡ Some (i, v) → (o ≡ Some i) × (v ≡ f i)
+found-with f None i v e = let z : ◌≡◌ {A = ℕ} 0 1 = cc in absurd (omega arith)
+found-with {B} f (Some j) i v e =
+    let pair : ◌≡◌ {A = ℕ × B} (j, f j) (i, v) = cc in
+    let same : j ≡ i = ap (λ x. x.0) pair in
+    (ap Some same, sym (ap (λ x. x.1) pair) ∙ ap f same)
+
+pub none-with : {B : Type 0} (f : ℕ → B) (o : Option ℕ) → option_map {U = ℕ × B} (λ i. (i, f i)) o ≡ None → o ≡ None
+none-with f None e = refl
+none-with f (Some j) e = let z : ◌≡◌ {A = ℕ} 0 1 = cc in absurd (omega arith)
+
+-- a sound row of a tray that fits has no hole
+module _ {X A : Type 0} (F : Field A) (meaning : X → A) (sizes : Sizes) (held : Contents X) (fit : fits F (seen meaning sizes held) ≡ true) where
+  pub sound-readable : (row : ℕ) → row < sizes.data_rows + sizes.parity_rows → sound F (seen meaning sizes held) row ≡ true → Readable F meaning sizes held row
+  sound-readable row h e = record {
+    fitting = fit;
+    inside = h;
+    filled = λ u l. sym (same-hole meaning (held.at row u)) ∙ ap is-hole (((sound-means F (seen meaning sizes held) row).0 e).symbols u l).1;
+  }
+
+  pub sound-writable : (row : ℕ) → row < sizes.data_rows → sound F (seen meaning sizes held) row ≡ true
+      → lowest sizes.parity_rows (λ i. not (sound F (seen meaning sizes held) (sizes.data_rows + i))) ≡ None → Writable F meaning sizes held row
+  sound-writable row h e none = record {
+    fitting = fit;
+    inside = h;
+    own = sound-readable row (omega arith) e;
+    parity = λ i l. sound-readable (sizes.data_rows + i) (omega arith) (not-false _ (lowest-none sizes.parity_rows _ none i l));
+  }
 
 -- what an action of a round met, by its answer
 began : (r : Round) (rows x : ℕ) → turn-answer r Begin rows ≡ Ok x → (walks_at r ≡ None) × (turned r Begin rows ≡ Walking 0)
@@ -69,6 +105,10 @@ module _ {A : Type 0} (F : Field A) (s : State A) where
   abbrev pub with-round : Round → Sheet → State A
   with-round round sheet = record { sizes = s.sizes; contents = s.contents; taken_in = s.taken_in; round = round; sheet = sheet }
 
+  -- the tray over a shelf that has come to hold other contents
+  abbrev pub with-contents : Contents A → State A
+  with-contents held = record { sizes = s.sizes; contents = held; taken_in = s.taken_in; round = s.round; sheet = s.sheet }
+
   pub unfit-refused : (c : Call A) → fits F s ≡ false → Promise F s c (refused DoesNotFit) s
   unfit-refused c e = refused-promise F s c DoesNotFit (rw e)
 
@@ -100,6 +140,10 @@ module _ {A : Type 0} (F : Field A) (s : State A) where
   pub allowed-fits : (start count : ℕ) → allowed s start count ≡ true → start + count ≤ n s
   allowed-fits start count a = grind (arith, nat_tests)
 
+  -- a span of symbols is one of as many elements
+  pub mapped-span : {X : Type 0} (meaning : X → A) (start : ℕ) (xs : List X) → allowed s start (length (map meaning xs)) ≡ allowed s start (length xs)
+  mapped-span meaning start xs = ap (allowed s start) (length-map xs meaning)
+
   -- calls on a tray that is taken in
   module _ (e : fits F s ≡ true) (t : s.taken_in ≡ true) where
     pub audit-no-row : (row : ℕ) → k s + p s ≤ row → Promise F s (audit row) (refused (NoSuchRow row)) s
@@ -127,6 +171,33 @@ module _ {A : Type 0} (F : Field A) (s : State A) where
           read-copied xs b is =
               subst (λ xs. Promise F s (read row start count) (copied xs) s) (sym is)
               (accepted (unrefused F s (read row start count) (rw (e, t, lt-leb _ _ h, a, b))) (did_read row start count))
+
+    module _ (row start : ℕ) (xs : List A) where
+      pub write-no-row : k s ≤ row → Promise F s (write row start xs) (refused (NoSuchRow row)) s
+      write-no-row h = refused-promise F s (write row start xs) (NoSuchRow row) (rw (e, t, le-leb _ _ h))
+
+      module _ (h : row < k s) where
+        pub write-long : allowed s start (length xs) ≡ false → Promise F s (write row start xs) (refused (BadSpan start)) s
+        write-long a = refused-promise F s (write row start xs) (BadSpan start) (rw (e, t, lt-leb _ _ h, a))
+
+        module _ (a : allowed s start (length xs) ≡ true) where
+          pub write-unsound : (v : Verdict) → v ≡ audited F s row → sound F s row ≡ false → Promise F s (write row start xs) (refused (Unsound row v)) s
+          write-unsound v is b =
+              subst (λ v. Promise F s (write row start xs) (refused (Unsound row v)) s) (sym is)
+              (refused-promise F s (write row start xs) (Unsound row (audited F s row)) (rw (e, t, lt-leb _ _ h, a, b)))
+
+          module _ (b : sound F s row ≡ true) where
+            pub write-unsound-parity : (i r : ℕ) (v : Verdict) → r ≡ k s + i → v ≡ audited F s (k s + i) → lowest (p s) (λ i. not (sound F s (k s + i))) ≡ Some i
+                → Promise F s (write row start xs) (refused (Unsound r v)) s
+            write-unsound-parity i r v of is f =
+                subst₂ (λ (r : ℕ) (v : Verdict). Promise F s (write row start xs) (refused (Unsound r v)) s) (sym of) (sym is)
+                (refused-promise F s (write row start xs) (Unsound (k s + i) (audited F s (k s + i))) (rw (e, t, lt-leb _ _ h, a, b, f)))
+
+            pub write-written : lowest (p s) (λ i. not (sound F s (k s + i))) ≡ None → (held : Contents A) → held ≡ (with-cells s (written F s row start xs (cell s))).contents
+                → Promise F s (write row start xs) done (with-contents held)
+            write-written f held is =
+                subst (λ v. Promise F s (write row start xs) done (with-contents v)) (sym is)
+                (accepted (unrefused F s (write row start xs) (rw (e, t, lt-leb _ _ h, a, b, f))) (did_write row start xs))
 
     pub cross-hole : (row c place : ℕ) → place ≡ n s + c → lowest-pair (k s + p s) (m s) (λ r u. is-hole (cell s r (n s + u))) ≡ Some (row, c)
         → Promise F s cross (refused (Unreadable row place)) s

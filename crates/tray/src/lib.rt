@@ -1,15 +1,19 @@
 // A tray: a redundancy group over any shelf, and its calls.
 #![tactic(auto)]
 
-ghost use Rattle.std.specs.Prelude.{◌≡◌, ◌+◌, ◌^◌, ◌<◌, length, OnErr};
-ghost use Rattle.rules.specs.Calls.{fit as fit-call, intake as intake-call, audit as audit-call, read as read-call, cross as cross-call};
+ghost use Rattle.std.specs.Prelude.{◌≡◌, ◌+◌, ◌^◌, ◌<◌, length, map, OnErr};
+ghost use Rattle.rules.specs.Calls.{fit as fit-call, intake as intake-call, audit as audit-call, read as read-call, write as write-call, cross as cross-call};
 ghost use Rattle.rules.specs.Calls.{begin as begin-call, step as step-call, totals as totals-call, record_of as record-call, first as first-call};
 ghost use Rattle.rules.specs.Calls.{judged, entry-is, lowest-is};
+ghost use Rattle.rules.specs.Audits.{AuditExact, ChangesSeen, NoLongerSound};
+ghost use Rattle.rules.specs.Crosses.{CrossAccepts};
 ghost use Rattle.rules.specs.Exact.{IntakeExact};
 ghost use Rattle.rules.specs.Promises.{Promise};
+ghost use Rattle.rules.specs.Rounds.{RoundExact};
 ghost use Rattle.rules.specs.States.{fits};
 ghost use Rattle.rules.specs.Updates.{allowed};
 ghost use Rattle.rules.specs.Views.{seen};
+ghost use Rattle.rules.specs.Writes.{WriteExact};
 ghost use Rattle.tray.specs.State.{state, answer-of, answer-by, read-answer, counts-of, Ready};
 
 use algebra::Field;
@@ -142,7 +146,10 @@ where
 
     // The verdict of one row.
     pub fn audit(&self, row: usize) -> Result<Verdict, Refusal>
-        ensures { Promise S.Symbol.Field.algebra (state S.Shelf.contents S.Symbol.Field.meaning self.now) (audit-call row) (answer-by judged result) (state S.Shelf.contents S.Symbol.Field.meaning self.now) }
+        ensures promise { Promise S.Symbol.Field.algebra (state S.Shelf.contents S.Symbol.Field.meaning self.now) (audit-call row) (answer-by judged result) (state S.Shelf.contents S.Symbol.Field.meaning self.now) }
+        ensures exact { AuditExact S.Symbol.Field.algebra }
+        ensures changes { ChangesSeen S.Symbol.Field.algebra }
+        ensures no_longer { NoLongerSound S.Symbol.Field.algebra }
     {
         self.ready()?;
         if row >= self.rows() {
@@ -171,9 +178,33 @@ where
         Ok(())
     }
 
+    // Writes symbols into a data row's block, and moves the parity rows and all cards touched by the change.
+    pub fn write(&mut self, row: usize, start: usize, symbols: &[S::Symbol]) -> Result<(), Refusal>
+        ensures promise { Promise S.Symbol.Field.algebra (state S.Shelf.contents S.Symbol.Field.meaning self.old) (write-call row start (map S.Symbol.Field.meaning symbols.now)) (answer-of result) (state S.Shelf.contents S.Symbol.Field.meaning self.new) }
+        ensures exact { WriteExact S.Symbol.Field.algebra }
+    {
+        self.ready()?;
+        if row >= self.sizes.data_rows {
+            return Err(Refusal::NoSuchRow(row));
+        }
+        if !self.allows(start, symbols.len()) {
+            return Err(Refusal::BadSpan(start));
+        }
+        let verdict = rows::audit(&self.shelf, self.sizes, row);
+        if !verdict.is_sound() {
+            return Err(Refusal::Unsound(row, verdict));
+        }
+        if let Some((i, found)) = rows::first_unsound_parity(&self.shelf, self.sizes) {
+            return Err(Refusal::Unsound(self.sizes.data_rows.saturating_add(i), found));
+        }
+        writes::write_symbols(&mut self.shelf, self.sizes, row, start, symbols);
+        Ok(())
+    }
+
     // Checks from cards alone that parity fits.
     pub fn cross(&self) -> Result<(), Refusal>
-        ensures { Promise S.Symbol.Field.algebra (state S.Shelf.contents S.Symbol.Field.meaning self.now) cross-call (answer-of result) (state S.Shelf.contents S.Symbol.Field.meaning self.now) }
+        ensures promise { Promise S.Symbol.Field.algebra (state S.Shelf.contents S.Symbol.Field.meaning self.now) cross-call (answer-of result) (state S.Shelf.contents S.Symbol.Field.meaning self.now) }
+        ensures accepts { CrossAccepts S.Symbol.Field.algebra }
     {
         self.ready()?;
         let start = self.sizes.block_length;
@@ -222,7 +253,8 @@ where
 
     // How many rows the round found sound, and how many it did not.
     pub fn totals(&mut self) -> Result<(usize, usize), Refusal>
-        ensures { Promise S.Symbol.Field.algebra (state S.Shelf.contents S.Symbol.Field.meaning self.old) totals-call (answer-by counts-of result) (state S.Shelf.contents S.Symbol.Field.meaning self.new) }
+        ensures promise { Promise S.Symbol.Field.algebra (state S.Shelf.contents S.Symbol.Field.meaning self.old) totals-call (answer-by counts-of result) (state S.Shelf.contents S.Symbol.Field.meaning self.new) }
+        ensures round { RoundExact S.Symbol.Field.algebra }
     {
         self.ready()?;
         let rows = self.rows();

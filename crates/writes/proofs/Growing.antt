@@ -1,7 +1,7 @@
 -- Growing cells: one put after the other, and what they come to.
-use Rattle.std.proofs.Common.{◌≡◌, ◌≢◌, ℕ, List, subst, zero, suc, ◌+◌, ◌-◌, ◌<◌, ◌≤◌, Bool, true, false, cond, ◌&&◌, ◌||◌, eqb, ltb, leb, sym, refl, ap, ◌∙◌, ap₂, inl, inr, arith, eq-eqb, eqb-true, lt-ltb, le-leb, le-ltb, ltb-true, add-one}
+use Rattle.std.proofs.Common.{◌≡◌, ℕ, List, subst, zero, suc, ◌+◌, ◌-◌, ◌<◌, Bool, true, false, cond, ◌&&◌, ◌||◌, eqb, ltb, leb, sym, refl, ap, ◌∙◌, ap₂, inl, inr, arith, eq-eqb, eqb-true, lt-ltb, le-leb, le-ltb}
 use mathlib.Core.Path.{fun_ext}
-use Rattle.std.proofs.lemmas.Bool.{cases_Bool, cases_eq, cases_lt, and_parts, and_from}
+use Rattle.std.proofs.lemmas.Bool.{cases_eq, and_parts}
 use Rattle.std.proofs.lemmas.Bool.Decides.{nat_tests}
 use Rattle.algebra.specs.Algebra.{Field, power}
 use Rattle.algebra.specs.Theorems.{coefficient}
@@ -11,7 +11,7 @@ use Rattle.shelves.specs.Contents.{Contents, Cell, symbol, hole, is-hole, inside
 use Rattle.shelves.proofs.Contents.{put-cell}
 use Rattle.rules.specs.Codes.{base}
 use Rattle.rules.specs.States.{State, k, p, n, m, symbol-or, fits}
-use Rattle.rules.specs.Updates.{grow, weight, own-change, touched, written_one}
+use Rattle.rules.specs.Updates.{grow, weight, own-change, written_one}
 use Rattle.rules.specs.Views.{seen, seen-cell, same-hole, element-at}
 use Rattle.rules.specs.declared.Sizes.{Sizes}
 use Rattle.rules.proofs.Rows.{fitting}

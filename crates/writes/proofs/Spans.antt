@@ -1,5 +1,5 @@
 -- A write, one symbol after the other.
-use Rattle.std.proofs.Common.{◌≡◌, ℕ, suc, ◌+◌, ◌<◌, ◌≤◌, Bool, true, false, cond, ◌&&◌, ◌||◌, eqb, ltb, leb, List, [], ◌∷◌, ◌++◌, length, take, get_or, sym, refl, ap, ◌∙◌, subst, ap₂, add-zero, add-one, arith, length-append, length-take, take_all}
+use Rattle.std.proofs.Common.{◌≡◌, ℕ, suc, ◌+◌, ◌<◌, ◌≤◌, cond, List, [], ◌∷◌, ◌++◌, length, take, get_or, sym, refl, ap, ◌∙◌, subst, ap₂, add-zero, arith, length-take, take_all}
 use mathlib.Core.Path.{fun_ext}
 use Rattle.std.specs.Prelude.{map}
 use Rattle.std.proofs.lemmas.List.{map-append, length-map}
@@ -8,7 +8,7 @@ use Rattle.algebra.specs.Algebra.{Field, minus}
 use Rattle.algebra.proofs.Cases.{by_cases}
 use Rattle.shelves.specs.Contents.{Contents, Cell, hole, is-hole, inside}
 use Rattle.shelves.proofs.Contents.{hole-is, same-contents}
-use Rattle.rules.specs.States.{State, k, p, n, m, cell, with-cells, symbol-or}
+use Rattle.rules.specs.States.{State, p, n, m, cell, with-cells, symbol-or}
 use Rattle.rules.specs.Updates.{weight, own-change, touched, written_one, written}
 use Rattle.rules.specs.Views.{seen, seen-contents, same-hole}
 use Rattle.rules.specs.declared.Sizes.{Sizes}

@@ -3,7 +3,7 @@ use Rattle.std.specs.Prelude.{◌≡◌, ℕ, zero, suc, ◌+◌, ◌<◌, ◌�
 use Rattle.algebra.specs.Algebra.{Field}
 use Rattle.algebra.specs.Theorems.{coefficient}
 use Rattle.shelves.specs.Contents.{Contents, Cell, is-hole}
-use Rattle.rules.specs.States.{State, k, p, n, m, cell, fits, with-cells}
+use Rattle.rules.specs.States.{State, k, n, m, cell, fits, with-cells}
 use Rattle.rules.specs.Updates.{grow, weight, written_one, written}
 use Rattle.rules.specs.Views.{seen-cell, seen-contents, seen}
 use Rattle.rules.specs.declared.Sizes.{Sizes}

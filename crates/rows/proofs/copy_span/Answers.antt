@@ -1,5 +1,4 @@
-use Rattle.std.proofs.Common.{◌≡◌, ◌+◌, ◌<◌, length, ap, ◌∙◌, take_all, arith, length-set}
-use Rattle.std.specs.Prelude.{map}
+use Rattle.std.proofs.Common.{◌≡◌, ◌+◌, ap, ◌∙◌, arith, length-set}
 use Rattle.rules.specs.Views.{seen, element-at}
 use Rattle.rows.proofs.Spans.{copied-more}
 use Rattle.rows.proofs.copy_span.Goals as goal

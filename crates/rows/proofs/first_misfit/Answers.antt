@@ -1,7 +1,7 @@
-use Rattle.std.proofs.Common.{◌≡◌, ℕ, ◌+◌, ◌^◌, ◌<◌, Bool, true, false, not, sym, ap, ◌∙◌, arith, below_more}
+use Rattle.std.proofs.Common.{◌≡◌, ℕ, ◌+◌, ◌<◌, Bool, true, false, not, sym, ap, ◌∙◌, arith, below_more}
 use Rattle.rules.proofs.Loops.{lowest-pair-at, lowest-pair-nowhere}
 use Rattle.rules.proofs.Rows.{fitting}
-use Rattle.rules.specs.States.{fits, misfit}
+use Rattle.rules.specs.States.{misfit}
 use Rattle.rules.specs.Views.{seen}
 use Rattle.rows.proofs.Combining.{misfit-is}
 use Rattle.rows.proofs.first_misfit.Goals as goal

@@ -1,6 +1,4 @@
-use Rattle.std.proofs.Common.{◌≡◌, ap, ◌∙◌, true, arith, lt-ltb, subst, sym}
-use Rattle.algebra.proofs.Cases.{and_both}
-use Rattle.rules.proofs.Rows.{fitting}
+use Rattle.std.proofs.Common.{ap, ◌∙◌}
 use Rattle.rules.specs.Views.{seen}
 use Rattle.writes.specs.Steps.{cells-of}
 use Rattle.writes.proofs.Growing.{put-grown, inside-fit}

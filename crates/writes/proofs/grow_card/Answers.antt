@@ -1,9 +1,7 @@
-use Rattle.std.proofs.Common.{◌≡◌, ◌+◌, ◌-◌, ◌<◌, false, sym, ap, ◌∙◌, ap₂, subst, arith, le-ltb}
-use Rattle.algebra.specs.Algebra.{power}
-use Rattle.rules.specs.Codes.{base}
+use Rattle.std.proofs.Common.{◌≡◌, sym, ap, ◌∙◌, subst, arith}
 use Rattle.rules.specs.Views.{seen}
 use Rattle.rules.proofs.Rows.{fitting}
-use Rattle.writes.specs.Steps.{Puts, card-grown, cells-of}
+use Rattle.writes.specs.Steps.{card-grown, cells-of}
 use Rattle.writes.proofs.Growing.{card-step, card-weight}
 use Rattle.writes.proofs.Numbers.{numbered}
 use Rattle.writes.proofs.grow_card.Goals as goal

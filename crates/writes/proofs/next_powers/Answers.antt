@@ -1,4 +1,4 @@
-use Rattle.std.proofs.Common.{◌≡◌, ◌+◌, ◌<◌, ◌≢◌, length, get_or, ap, ◌∙◌, sym, ap₂, add-one, arith, length-set, get_or-set_other, get_or-set_same, below_more}
+use Rattle.std.proofs.Common.{◌<◌, ◌≢◌, length, ap, ◌∙◌, sym, ap₂, add-one, arith, length-set, get_or-set_other, get_or-set_same, below_more}
 use Rattle.algebra.specs.Algebra.{power}
 use Rattle.rules.specs.Codes.{base}
 use Rattle.writes.proofs.Numbers.{numbered}

@@ -1,6 +1,4 @@
-use Rattle.std.proofs.Common.{◌≡◌, ◌<◌, sym, ap, ◌∙◌, ap₂, subst, arith}
-use Rattle.algebra.specs.Theorems.{coefficient}
-use Rattle.rules.specs.Updates.{written_one}
+use Rattle.std.proofs.Common.{◌≡◌, ap, ◌∙◌, ap₂, arith}
 use Rattle.rules.specs.Views.{seen}
 use Rattle.rules.proofs.Rows.{fitting}
 use Rattle.writes.specs.Steps.{rows-grown, cells-of}

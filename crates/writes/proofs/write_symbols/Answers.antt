@@ -1,4 +1,4 @@
-use Rattle.std.proofs.Common.{◌≡◌, ◌+◌, sym, ap, subst, arith}
+use Rattle.std.proofs.Common.{◌≡◌, ◌+◌, subst, arith}
 use Rattle.rules.specs.Views.{seen}
 use Rattle.rules.proofs.Rows.{fitting}
 use Rattle.writes.specs.Weights.{PowersAt}

@@ -1,16 +1,14 @@
-use Rattle.std.proofs.Common.{◌≡◌, ℕ, ◌+◌, ◌<◌, sym, ◌∙◌, subst, subst₂, arith}
-use Rattle.rules.specs.Calls.{cross, refused}
-use Rattle.rules.specs.Promises.{Promise}
-use Rattle.rules.specs.States.{k, p, n, m, misfit}
-use Rattle.rules.specs.declared.Refusal.TheVariants.{Unreadable, Misfit}
+use Rattle.std.proofs.Common.{◌≡◌, ◌+◌, sym, ◌∙◌, arith}
+use Rattle.rules.specs.States.{k, p, n, m}
 use Rattle.rules.proofs.Found.{lowest-pair-some}
 use Rattle.rules.proofs.Rows.{fitting}
 use Rattle.tray.specs.State.{state}
 use Rattle.tray.proofs.Answering.{stretch-holes, cross-hole, cross-misfit, cross-fitting}
+use Rattle.rules.proofs.Crosses.{cross-accepts}
 use Rattle.tray.proofs.Tray.cross.Goals as goal
 
-pub returns-in-Some : goal.returns-in-Some
-returns-in-Some g c =
+pub returns-in-Some-clause-promise : goal.returns-in-Some-clause-promise
+returns-in-Some-clause-promise g c =
     let F = g.S.Symbol.Field.algebra in
     let meaning = g.S.Symbol.Field.meaning in
     let s = state g.S.Shelf.contents meaning c.args.self.now in
@@ -20,8 +18,8 @@ returns-in-Some g c =
     let low = lowest-pair-some (k s + p s) (m s) _ c.in-Some.row c.in-Some.component hit in
     cross-hole F s c.in_ok-ready.ensures.0 c.in_ok-ready.ensures.1 c.in-Some.row c.in-Some.component c.saturating_add.result (omega (arith, c.saturating_add.ensures, low.1)) hit
 
-pub returns-in-Some-first_misfit : goal.returns-in-Some-first_misfit
-returns-in-Some-first_misfit g c =
+pub returns-in-Some-first_misfit-clause-promise : goal.returns-in-Some-first_misfit-clause-promise
+returns-in-Some-first_misfit-clause-promise g c =
     let F = g.S.Symbol.Field.algebra in
     let meaning = g.S.Symbol.Field.meaning in
     let s = state g.S.Shelf.contents meaning c.args.self.now in
@@ -33,8 +31,8 @@ returns-in-Some-first_misfit g c =
     cross-misfit F s c.in_ok-ready.ensures.0 c.in_ok-ready.ensures.1 whole c.in-Some-first_misfit.i c.in-Some-first_misfit.component c.saturating_add-row.result c.saturating_add-in-Some-first_misfit.result
     (omega (arith, c.saturating_add-row.ensures, low.0)) (omega (arith, c.saturating_add-in-Some-first_misfit.ensures, low.1)) hit
 
-pub returns : goal.returns
-returns g c =
+pub returns-clause-promise : goal.returns-clause-promise
+returns-clause-promise g c =
     let F = g.S.Symbol.Field.algebra in
     let meaning = g.S.Symbol.Field.meaning in
     let s = state g.S.Shelf.contents meaning c.args.self.now in
@@ -42,3 +40,15 @@ returns g c =
     let all : c.rows.result ≡ k s + p s = c.rows.ensures (omega arith) in
     let whole = stretch-holes meaning (g.S.Shelf.contents c.args.self.now.shelf) (k s + p s) c.rows.result (n s) (m s) _ all (c.first_hole.ensures (omega arith)) ∙ c.in_default.is in
     cross-fitting F s c.in_ok-ready.ensures.0 c.in_ok-ready.ensures.1 whole (sym (c.first_misfit.ensures (omega arith) c.in_ok-ready.ensures.0) ∙ c.in_default-first_misfit.is)
+
+pub returns-in_err-ready-clause-accepts : goal.returns-in_err-ready-clause-accepts
+returns-in_err-ready-clause-accepts g c = cross-accepts g.S.Symbol.Field.algebra
+
+pub returns-in-Some-clause-accepts : goal.returns-in-Some-clause-accepts
+returns-in-Some-clause-accepts g c = cross-accepts g.S.Symbol.Field.algebra
+
+pub returns-in-Some-first_misfit-clause-accepts : goal.returns-in-Some-first_misfit-clause-accepts
+returns-in-Some-first_misfit-clause-accepts g c = cross-accepts g.S.Symbol.Field.algebra
+
+pub returns-clause-accepts : goal.returns-clause-accepts
+returns-clause-accepts g c = cross-accepts g.S.Symbol.Field.algebra

@@ -1,11 +1,7 @@
-use Rattle.std.proofs.Common.{◌≡◌, ℕ, ◌+◌, sym, ap, ◌∙◌, subst, arith}
+use Rattle.std.proofs.Common.{◌≡◌, ◌+◌, sym, ◌∙◌, arith}
 use Rattle.shelves.specs.Contents.{is-hole}
-use Rattle.rules.specs.Calls.{refused}
-use Rattle.rules.specs.Promises.{Promise}
 use Rattle.rules.specs.Calls.{intake}
-use Rattle.rules.specs.Search.{lowest-pair}
 use Rattle.rules.specs.States.{k, p, n, cell, misfit}
-use Rattle.rules.specs.declared.Refusal.TheVariants.{Misfit}
 use Rattle.rules.proofs.Found.{lowest-pair-some}
 use Rattle.rules.proofs.Intake.{intake-exact}
 use Rattle.rules.proofs.Rows.{fitting}

@@ -1,6 +1,4 @@
-use Rattle.std.proofs.Common.{◌≡◌, ◌+◌, sym, ap, subst, arith}
-use Rattle.rules.specs.Calls.{record_of, entry-is}
-use Rattle.rules.specs.Promises.{Promise}
+use Rattle.std.proofs.Common.{◌≡◌, ◌+◌, arith}
 use Rattle.rules.specs.States.{k, p}
 use Rattle.rules.proofs.Rows.{fitting}
 use Rattle.tray.specs.State.{state}
