@@ -1,0 +1,30 @@
+-- Rows put whole: a block from weights, and its fresh card.
+use Rattle.std.specs.Prelude.{◌≡◌, ℕ, ◌+◌, ◌-◌, ◌<◌, true, cond, ◌&&◌, ◌==◌, nat_lt, List}
+use Rattle.algebra.specs.Algebra.{Field}
+use Rattle.algebra.specs.Sum.{sum_to}
+use Rattle.shelves.specs.Contents.{Contents, Cell, symbol}
+use Rattle.rules.specs.Codes.{component}
+use Rattle.rules.specs.Views.{seen-cell, element-at}
+use Rattle.rules.specs.declared.Sizes.{Sizes}
+use Rattle.mending.specs.Stored.{stored}
+use Rattle.rows.specs.Cards.{Holds}
+
+module _ {X A : Type 0} (F : Field A) (meaning : X → A) where
+  -- what rows with these weights make at a place
+  abbrev pub weighted-sum : Contents X → (ℕ → A) → ℕ → ℕ → A
+  weighted-sum held weights rows place = sum_to F rows (λ row. F.mul (weights row) (element-at F meaning held row place))
+
+  module _ (sizes : Sizes) (weights : ℕ → A) (row : ℕ) (before : Contents X) where
+    abbrev pub worked : ℕ → A
+    worked = weighted-sum before weights (sizes.data_rows + sizes.parity_rows)
+
+    -- the first places of one row's block
+    abbrev pub block-cells : ℕ → ℕ → ℕ → Cell A
+    block-cells count r t = cond (r == row && nat_lt t count) (symbol (worked t)) (seen-cell meaning (before.at r t))
+
+    -- one row, block and card
+    abbrev pub row-cells : ℕ → ℕ → Cell A
+    row-cells r t =
+        cond (r == row && nat_lt t (sizes.block_length + sizes.card_length))
+        (cond (nat_lt t sizes.block_length) (symbol (worked t)) (symbol (component F sizes.block_length worked (t - sizes.block_length))))
+        (seen-cell meaning (before.at r t))
