@@ -128,6 +128,24 @@ fn working<F: Field>(
     solution::<F>(used, &columns, right, lost.count)
 }
 
+// The weights of all rows in the lost data rows.
+fn all_weights<F: Field>(
+    damage: &Damage,
+    data_rows: usize,
+    used: &[usize; 4],
+    lost: &Picks,
+) -> [[usize; 4]; 68]
+    ensures { data_rows ≤ 64 → lost.now.count ≤ 4 → Square F.Field.algebra data_rows lost.now.count (slice_index used.now) (slice_index lost.now.at)
+        → (row : ℕ) → row < 68 → Solves F.Field.algebra lost.now.count (slice_index used.now) (slice_index lost.now.at) (λ a. share-of F.Field.algebra data_rows (flag damage.now.sound) (slice_index used.now a) row) (weight-in F.Field.algebra result row) }
+{
+    let mut weights = [[0; 4]; 68];
+    for row in 0..68 {
+        let solved = working::<F>(damage, data_rows, used, lost, row);
+        weights[row] = solved;
+    }
+    weights
+}
+
 // How the lost data rows follow from the sound ones and from as many parity rows, the lowest that are sound.
 pub fn make_plan<F: Field>(sizes: Sizes, damage: &Damage) -> Plan
     ensures { sizes.data_rows ≤ 64 → sizes.parity_rows ≤ 4 → sizes.data_rows + 4 ≤ F.Field.algebra.size
@@ -136,11 +154,7 @@ pub fn make_plan<F: Field>(sizes: Sizes, damage: &Damage) -> Plan
 {
     let lost = picked(damage, 0, sizes.data_rows, false);
     let used = picked(damage, sizes.data_rows, sizes.parity_rows, true);
-    let mut weights = [[0; 4]; 68];
-    for row in 0..sizes.data_rows.saturating_add(sizes.parity_rows).min(68) {
-        let solved = working::<F>(damage, sizes.data_rows, &used.at, &lost, row);
-        weights[row] = solved;
-    }
+    let weights = all_weights::<F>(damage, sizes.data_rows, &used.at, &lost);
     Plan {
         lost: lost.at,
         count: lost.count,
@@ -183,6 +197,19 @@ fn through_lost<F: Field>(plan: &Plan, i: usize, row: usize) -> F
     sum
 }
 
+// The weight of a row in parity row i, worked from the data rows: its own coefficient, and its part in the lost data rows.
+fn parity_weight<F: Field>(sizes: Sizes, damage: &Damage, plan: &Plan, i: usize, row: usize) -> F
+    ensures { sizes.data_rows ≤ 64 → sizes.data_rows + 4 ≤ F.Field.algebra.size → i < 4 → plan.now.count ≤ 4 → ((b : ℕ) → b < plan.now.count → slice_index plan.now.lost b < sizes.data_rows)
+        → F.Field.meaning result ≡ weight-of F.Field.algebra sizes.data_rows (flag damage.now.sound) plan.now (sizes.data_rows + i) row }
+{
+    let through: F = through_lost(plan, i, row);
+    if row < sizes.data_rows && is_sound(damage, row) {
+        rows::coefficient::<F>(i, row).sum(through)
+    } else {
+        F::zero().sum(through)
+    }
+}
+
 // The weights of all rows in parity row i, worked from the data rows.
 fn parity_weights<F: Field>(sizes: Sizes, damage: &Damage, plan: &Plan, i: usize) -> [usize; 68]
     ensures { sizes.data_rows ≤ 64 → sizes.data_rows + 4 ≤ F.Field.algebra.size → i < 4 → plan.now.count ≤ 4 → ((b : ℕ) → b < plan.now.count → slice_index plan.now.lost b < sizes.data_rows)
@@ -190,10 +217,7 @@ fn parity_weights<F: Field>(sizes: Sizes, damage: &Damage, plan: &Plan, i: usize
 {
     let mut weights = [0; 68];
     for row in 0..68 {
-        let mut weight: F = through_lost(plan, i, row);
-        if row < sizes.data_rows && is_sound(damage, row) {
-            weight = rows::coefficient::<F>(i, row).sum(weight);
-        }
+        let weight: F = parity_weight(sizes, damage, plan, i, row);
         store(&mut weights, row, weight);
     }
     weights
