@@ -1,5 +1,6 @@
 -- From the array's solution to the equations of the used parity rows.
-use Rattle.std.proofs.Common.{◌≡◌, ℕ, ◌+◌, ◌<◌, ◌≤◌, Bool, true, false, not, ◌≢◌, sym, refl, ap, ◌∙◌, ap₂, subst, arith}
+use Rattle.std.proofs.Common.{◌≡◌, ℕ, ◌+◌, ◌<◌, ◌≤◌, Bool, true, false, not, ◌≢◌, sym, refl, ap, ◌∙◌, ap₂, subst, List, get_or, arith}
+use mathlib.Core.Path.{fun_ext}
 use Rattle.std.proofs.lemmas.Bool.{and_parts, ltb-true}
 use Rattle.algebra.specs.Algebra.{Field, minus}
 use Rattle.algebra.specs.Sum.{sum_to}
@@ -8,8 +9,9 @@ use Rattle.algebra.specs.Theorems.{scale, coefficient, Square, Solves, solution}
 use Rattle.algebra.proofs.Matrix.{exactly-one-solution}
 use Rattle.algebra.proofs.Sums.{sum_below}
 use Rattle.rules.specs.Search.{counted}
-use Rattle.rules.proofs.Counted.{select, select-rank, counted-before}
-use Rattle.mending.specs.Plans.{Picked, lost, used-by, share}
+use Rattle.rules.proofs.Counted.{select, select-rank, counted-before, counted-not}
+use Rattle.mending.specs.declared.Plan.{Plan}
+use Rattle.mending.specs.Plans.{Picked, lost, used-by, share, weight-in, Planned}
 use Rattle.mending.proofs.Solving.{solve-same}
 
 module _ {A : Type 0} (F : Field A) where
@@ -37,6 +39,9 @@ picked_is bound test i c pick h e =
     let t = select-rank bound test i h e in
     sym s ∙ ap (select bound test) pick.rank ∙ t
 
+counted-few : (n : ℕ) (test : ℕ → Bool) → counted n test ≤ n
+counted-few n test = omega (arith, counted-not n test)
+
 module _ {A : Type 0} (F : Field A) (k p : ℕ) (sound : ℕ → Bool) where
   pub square-of : (used lost-at : ℕ → ℕ) → k + 4 ≤ F.size → p ≤ 4 → counted k (lost F k sound) ≤ counted p (λ i. sound (k + i))
       → ((b : ℕ) → b < counted k (lost F k sound) → Picked k (lost F k sound) b (lost-at b))
@@ -58,3 +63,48 @@ module _ {A : Type 0} (F : Field A) (k p : ℕ) (sound : ℕ → Bool) where
       let rank = counted-before i p (λ i. sound (k + i)) h q.0 in
       subst P (picked_is p (λ i. sound (k + i)) i _ (us (counted i (λ i. sound (k + i))) rank) h q.0)
       (each (counted i (λ i. sound (k + i))) (ltb-true _ _ q.1))
+
+  module _ (few : k ≤ 64) (four : p ≤ 4) (room : k + 4 ≤ F.size) (enough : counted k (lost F k sound) ≤ counted p (λ i. sound (k + i)))
+      (lost-at used-at : List ℕ) (weights : List (List ℕ)) where
+    abbrev Columns : ℕ → (ℕ → Bool) → List ℕ → Type 0
+    Columns bound test at = (b : ℕ) → b < 4 → b < counted bound test → Picked bound test b (get_or at b 0)
+
+    abbrev Equations : Type 0
+    Equations =
+        Square F k (counted k (lost F k sound)) (λ a. get_or used-at a 0) (λ b. get_or lost-at b 0) → (row : ℕ) → row < 68
+        → Solves F (counted k (lost F k sound)) (λ a. get_or used-at a 0) (λ b. get_or lost-at b 0) (λ a. share F k sound (get_or used-at a 0) row) (weight-in F weights row)
+
+    few-picked : (b : ℕ) → b < counted p (λ i. sound (k + i)) → b < 4
+    few-picked b h = omega (arith, counted-few p (λ i. sound (k + i)))
+
+    planned-here : Columns k (lost F k sound) lost-at → Columns p (λ i. sound (k + i)) used-at → Equations
+        → Planned F k p sound (record { lost = lost-at; count = counted k (lost F k sound); weights = weights })
+    planned-here bs us solved =
+        let bs' : (b : ℕ) → b < counted k (lost F k sound) → Picked k (lost F k sound) b (get_or lost-at b 0) = λ b h. bs b (few-picked b (omega arith)) h in
+        let us' : (a : ℕ) → a < counted p (λ i. sound (k + i)) → Picked p (λ i. sound (k + i)) a (get_or used-at a 0) = λ a h. us a (few-picked a h) h in
+        let q = square-of (λ a. get_or used-at a 0) (λ b. get_or lost-at b 0) room four enough bs' us' in
+        record {
+          count = refl;
+          picks = bs';
+          solves = λ row i h l e.
+              by-row (λ a. get_or used-at a 0) us'
+              (λ i. sum_to F (counted k (lost F k sound)) (λ b. F.mul (coefficient F i (get_or lost-at b 0)) (weight-in F weights row b)) ≡ share F k sound i row)
+              (λ a o. solved q row (omega arith) a o) i l e;
+        }
+
+    pub planned-by : (lost-count used-count : ℕ)
+        → lost-count ≡ counted k (λ i. not (sound (0 + i))) → ((b : ℕ) → b < 4 → b < lost-count → Picked k (λ i. not (sound (0 + i))) b (get_or lost-at b 0))
+        → used-count ≡ counted p (λ i. sound (k + i)) → ((b : ℕ) → b < 4 → b < used-count → Picked p (λ i. sound (k + i)) b (get_or used-at b 0))
+        → (lost-count ≤ 4 → Square F k lost-count (λ a. get_or used-at a 0) (λ b. get_or lost-at b 0) → (row : ℕ) → row < 68
+        → Solves F lost-count (λ a. get_or used-at a 0) (λ b. get_or lost-at b 0) (λ a. share F k sound (get_or used-at a 0) row) (weight-in F weights row))
+        → Planned F k p sound (record { lost = lost-at; count = lost-count; weights = weights })
+    planned-by lost-count used-count lc bs uc us solved =
+        let from-zero : (λ (i : ℕ). not (sound (0 + i))) ≡ (λ (i : ℕ). not (sound i)) = fun_ext λ i. let e : 0 + i ≡ i = omega arith in ap (λ j. not (sound j)) e in
+        let counts : lost-count ≡ counted k (lost F k sound) = lc ∙ ap (counted k) from-zero in
+        let bs' : (b : ℕ) → b < 4 → b < lost-count → Picked k (lost F k sound) b (get_or lost-at b 0) =
+        λ b f h. subst (λ test. Picked k test b (get_or lost-at b 0)) from-zero (bs b f h) in
+        let at-most : lost-count ≤ 4 = omega (arith, counts, enough, counted-few p (λ i. sound (k + i))) in
+        subst (λ c. Planned F k p sound (record { lost = lost-at; count = c; weights = weights })) (sym counts)
+        (planned-here (λ b f h. bs' b f (omega (arith, counts, h))) (λ a f h. us a f (omega (arith, uc, h)))
+        (subst (λ c. Square F k c (λ a. get_or used-at a 0) (λ b. get_or lost-at b 0) → (row : ℕ) → row < 68
+        → Solves F c (λ a. get_or used-at a 0) (λ b. get_or lost-at b 0) (λ a. share F k sound (get_or used-at a 0) row) (weight-in F weights row)) counts (solved at-most)))
