@@ -1,3 +1,4 @@
 pub mod Numbers
 pub mod Solving
 pub mod Planning
+pub mod Weighing

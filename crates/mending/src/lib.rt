@@ -6,7 +6,7 @@ ghost use Rattle.algebra.specs.Theorems.{coefficient as coefficient-of, Square, 
 ghost use Rattle.algebra.specs.Sum.{sum_to};
 ghost use Rattle.rules.specs.Codes.{differ};
 ghost use Rattle.rules.specs.Search.{counted, lowest, lowest-pair};
-ghost use Rattle.rules.specs.States.{State, fits, with-cells};
+ghost use Rattle.rules.specs.States.{fits, with-cells, unsound-count};
 ghost use Rattle.rules.specs.Updates.{Worked, worked-misfit, mended-cells};
 ghost use Rattle.rules.specs.Views.{element-at, seen, seen-contents};
 ghost use Rattle.algebra.specs.Below.{Below};
@@ -234,4 +234,68 @@ fn row_weights<F: Field>(sizes: Sizes, damage: &Damage, plan: &Plan, row: usize)
     } else {
         parity_weights::<F>(sizes, damage, plan, row - sizes.data_rows)
     }
+}
+
+// What rows with these weights make at a place.
+fn weighted<S: Shelf>(shelf: &S, weights: &[usize; 68], rows: usize, place: usize) -> S::Symbol
+where
+    S::Symbol: Field,
+    ensures { S.Symbol.Field.meaning result ≡ weighted-sum S.Symbol.Field.algebra S.Symbol.Field.meaning (S.Shelf.contents shelf.now) (stored-at S.Symbol.Field.algebra weights.now) rows place }
+{
+    let mut sum: S::Symbol = <S::Symbol>::zero();
+    for row in 0..rows {
+        let weight: S::Symbol = stored(weights, row);
+        sum = sum.sum(weight.product(rows::symbol_at(shelf, row, place)));
+    }
+    sum
+}
+
+// The lowest place of a block where a row does not hold what the rows with these weights make.
+fn first_difference<S: Shelf>(
+    shelf: &S,
+    weights: &[usize; 68],
+    rows: usize,
+    row: usize,
+    block_length: usize,
+) -> Option<usize>
+where
+    S::Symbol: Field,
+    ensures { result ≡ lowest block_length (λ place. differ S.Symbol.Field.algebra
+        (weighted-sum S.Symbol.Field.algebra S.Symbol.Field.meaning (S.Shelf.contents shelf.now) (stored-at S.Symbol.Field.algebra weights.now) rows place)
+        (element-at S.Symbol.Field.algebra S.Symbol.Field.meaning (S.Shelf.contents shelf.now) row place)) }
+{
+    for place in 0..block_length {
+        let worked = weighted(shelf, weights, rows, place);
+        if !worked.equals(rows::symbol_at(shelf, row, place)) {
+            return Some(place);
+        }
+    }
+    None
+}
+
+// The first place of the first sound parity row that does not fit the data rows as worked, by parity row and then by place of the block. The parity row
+// is named by its index i, not by its row k + i.
+pub fn first_worked_misfit<S: Shelf>(
+    shelf: &S,
+    sizes: Sizes,
+    damage: &Damage,
+    plan: &Plan,
+) -> Option<(usize, usize)>
+where
+    S::Symbol: Field,
+    ensures { let F = S.Symbol.Field.algebra in let s = seen S.Symbol.Field.meaning sizes (S.Shelf.contents shelf.now) in
+        fits F s ≡ true → unsound-count F s ≤ sizes.parity_rows → Gathered F s damage.now → Planned F sizes.data_rows sizes.parity_rows (flag damage.now.sound) plan.now
+        → (blocks : ℕ → ℕ → Below S.Symbol.Field.size) → Worked F s blocks → result ≡ lowest-pair sizes.parity_rows sizes.block_length (worked-misfit F s blocks) }
+{
+    let rows = sizes.data_rows.saturating_add(sizes.parity_rows);
+    for i in 0..sizes.parity_rows {
+        let row = sizes.data_rows.saturating_add(i);
+        if is_sound(damage, row) {
+            let weights = row_weights::<S::Symbol>(sizes, damage, plan, row);
+            if let Some(place) = first_difference(shelf, &weights, rows, row, sizes.block_length) {
+                return Some((i, place));
+            }
+        }
+    }
+    None
 }
