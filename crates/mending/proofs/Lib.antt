@@ -2,3 +2,4 @@ pub mod Numbers
 pub mod Solving
 pub mod Planning
 pub mod Weighing
+pub mod Stating

@@ -4,7 +4,8 @@ use Rattle.algebra.specs.Algebra.{Field}
 use Rattle.algebra.specs.Sum.{sum_to}
 use Rattle.shelves.specs.Contents.{Contents, Cell, symbol}
 use Rattle.rules.specs.Codes.{component}
-use Rattle.rules.specs.Views.{seen-cell, element-at}
+use Rattle.rules.specs.Updates.{mended-cells}
+use Rattle.rules.specs.Views.{seen-cell, seen, element-at}
 use Rattle.rules.specs.declared.Sizes.{Sizes}
 use Rattle.mending.specs.Stored.{stored}
 use Rattle.rows.specs.Cards.{Holds}
@@ -28,3 +29,7 @@ module _ {X A : Type 0} (F : Field A) (meaning : X → A) where
         cond (r == row && nat_lt t (sizes.block_length + sizes.card_length))
         (cond (nat_lt t sizes.block_length) (symbol (worked t)) (symbol (component F sizes.block_length worked (t - sizes.block_length))))
         (seen-cell meaning (before.at r t))
+
+  -- the rows below a bound as mend leaves them, and the others as they were
+  abbrev pub mended-below : Sizes → (ℕ → ℕ → A) → Contents X → ℕ → ℕ → ℕ → Cell A
+  mended-below sizes blocks before row r t = cond (nat_lt r row) (mended-cells F (seen meaning sizes before) blocks r t) (seen-cell meaning (before.at r t))

@@ -273,6 +273,29 @@ where
     None
 }
 
+// The lowest place of the block where parity row i is sound and does not fit the data rows as worked.
+fn row_misfit<S: Shelf>(
+    shelf: &S,
+    sizes: Sizes,
+    damage: &Damage,
+    plan: &Plan,
+    i: usize,
+) -> Option<usize>
+where
+    S::Symbol: Field,
+    ensures { let F = S.Symbol.Field.algebra in let s = seen S.Symbol.Field.meaning sizes (S.Shelf.contents shelf.now) in
+        fits F s ≡ true → unsound-count F s ≤ sizes.parity_rows → Gathered F s damage.now → Planned F sizes.data_rows sizes.parity_rows (flag damage.now.sound) plan.now
+        → i < sizes.parity_rows → (blocks : ℕ → ℕ → Below S.Symbol.Field.size) → Worked F s blocks → result ≡ lowest sizes.block_length (worked-misfit F s blocks i) }
+{
+    let row = sizes.data_rows.saturating_add(i);
+    if !is_sound(damage, row) {
+        return None;
+    }
+    let rows = sizes.data_rows.saturating_add(sizes.parity_rows);
+    let weights = row_weights::<S::Symbol>(sizes, damage, plan, row);
+    first_difference(shelf, &weights, rows, row, sizes.block_length)
+}
+
 // The first place of the first sound parity row that does not fit the data rows as worked, by parity row and then by place of the block. The parity row
 // is named by its index i, not by its row k + i.
 pub fn first_worked_misfit<S: Shelf>(
@@ -287,15 +310,51 @@ where
         fits F s ≡ true → unsound-count F s ≤ sizes.parity_rows → Gathered F s damage.now → Planned F sizes.data_rows sizes.parity_rows (flag damage.now.sound) plan.now
         → (blocks : ℕ → ℕ → Below S.Symbol.Field.size) → Worked F s blocks → result ≡ lowest-pair sizes.parity_rows sizes.block_length (worked-misfit F s blocks) }
 {
-    let rows = sizes.data_rows.saturating_add(sizes.parity_rows);
     for i in 0..sizes.parity_rows {
-        let row = sizes.data_rows.saturating_add(i);
-        if is_sound(damage, row) {
-            let weights = row_weights::<S::Symbol>(sizes, damage, plan, row);
-            if let Some(place) = first_difference(shelf, &weights, rows, row, sizes.block_length) {
-                return Some((i, place));
-            }
+        if let Some(place) = row_misfit(shelf, sizes, damage, plan, i) {
+            return Some((i, place));
         }
     }
     None
+}
+
+// Puts one row's block: at each place, what the rows with these weights make there.
+fn put_block<S: Shelf>(shelf: &mut S, sizes: Sizes, weights: &[usize; 68], row: usize)
+where
+    S::Symbol: Field,
+    ensures { let F = S.Symbol.Field.algebra in let meaning = S.Symbol.Field.meaning in let before = S.Shelf.contents shelf.old in
+        row < sizes.data_rows + sizes.parity_rows → Holds F meaning sizes before (block-cells F meaning sizes (stored-at F weights.now) row before sizes.block_length) (S.Shelf.contents shelf.new) }
+{
+    let rows = sizes.data_rows.saturating_add(sizes.parity_rows);
+    for place in 0..sizes.block_length {
+        let symbol = weighted(shelf, weights, rows, place);
+        let _ = shelf.put(row, place, symbol);
+    }
+}
+
+// Puts one row, block and card.
+fn put_row<S: Shelf>(shelf: &mut S, sizes: Sizes, weights: &[usize; 68], row: usize)
+where
+    S::Symbol: Field,
+    ensures { let F = S.Symbol.Field.algebra in let meaning = S.Symbol.Field.meaning in let before = S.Shelf.contents shelf.old in
+        row < sizes.data_rows + sizes.parity_rows → Holds F meaning sizes before (row-cells F meaning sizes (stored-at F weights.now) row before) (S.Shelf.contents shelf.new) }
+{
+    put_block(shelf, sizes, weights, row);
+    rows::put_card(shelf, sizes, row);
+}
+
+// Puts every row that is not sound, block and card: lost data rows as worked, and parity rows from all data rows.
+pub fn put_rows<S: Shelf>(shelf: &mut S, sizes: Sizes, damage: &Damage, plan: &Plan)
+where
+    S::Symbol: Field,
+    ensures { let F = S.Symbol.Field.algebra in let meaning = S.Symbol.Field.meaning in let s = seen meaning sizes (S.Shelf.contents shelf.old) in
+        fits F s ≡ true → unsound-count F s ≤ sizes.parity_rows → Gathered F s damage.now → Planned F sizes.data_rows sizes.parity_rows (flag damage.now.sound) plan.now
+        → (blocks : ℕ → ℕ → Below S.Symbol.Field.size) → Worked F s blocks → seen-contents meaning (S.Shelf.contents shelf.new) ≡ (with-cells s (mended-cells F s blocks)).contents }
+{
+    for row in 0..sizes.data_rows.saturating_add(sizes.parity_rows) {
+        if !is_sound(damage, row) {
+            let weights = row_weights::<S::Symbol>(sizes, damage, plan, row);
+            put_row(shelf, sizes, &weights, row);
+        }
+    }
 }
