@@ -3,3 +3,4 @@ pub mod Solving
 pub mod Planning
 pub mod Weighing
 pub mod Stating
+pub mod Putting

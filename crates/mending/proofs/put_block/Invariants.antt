@@ -9,4 +9,4 @@ invariant-loop-place g l =
     let F = g.S.Symbol.Field.algebra in
     let meaning = g.S.Symbol.Field.meaning in
     let before = g.S.Shelf.contents l.initial.shelf in
-    l.row < l.sizes.data_rows + l.sizes.parity_rows → Holds F meaning l.sizes before (block-cells F meaning l.sizes (stored F l.weights) l.row before l.place) (g.S.Shelf.contents l.shelf)
+    l.row < l.fn.sizes.data_rows + l.fn.sizes.parity_rows → Holds F meaning l.fn.sizes before (block-cells F meaning l.fn.sizes (stored F l.weights) l.row before l.place) (g.S.Shelf.contents l.shelf)
