@@ -2,3 +2,4 @@ mod Horner
 mod Reading
 mod Combining
 mod Carding
+mod Spans

@@ -1,18 +1,20 @@
 // Code that reads a shelf: cards, parity combinations, and the first place where something is wrong.
 #![tactic(auto)]
 
-ghost use Rattle.std.specs.Prelude.{◌≡◌, ℕ, ◌+◌, ◌<◌, ◌≤◌};
+ghost use Rattle.std.specs.Prelude.{◌≡◌, ℕ, ◌+◌, ◌^◌, ◌<◌, ◌≤◌, true, length, map};
 ghost use Rattle.algebra.specs.Theorems.{coefficient as coefficient-of};
-ghost use Rattle.rules.specs.Codes.{component, combination as combination-of};
-ghost use Rattle.rules.specs.Search.{lowest-pair};
-ghost use Rattle.rules.specs.States.{misfit};
+ghost use Rattle.rules.specs.Codes.{component, combination as combination-of, differ};
+ghost use Rattle.rules.specs.Search.{lowest, lowest-pair};
+ghost use Rattle.rules.specs.States.{audited, fits, misfit};
+ghost use Rattle.rules.specs.Updates.{span};
 ghost use Rattle.rules.specs.Views.{element-at, seen};
 ghost use Rattle.shelves.specs.Contents.{is-hole};
 ghost use Rattle.rows.specs.Cards.{CardPut, CardsPut};
 ghost use Rattle.rows.specs.Weights.{Coefficients};
+ghost use Rattle.rules.specs.declared.Sizes.{Sizes as Sizes-of};
 
 use algebra::Field;
-use rules::Sizes;
+use rules::{Sizes, Verdict};
 use shelves::{Got, Shelf};
 
 // The symbol at a place, and zero where there is none.
@@ -99,19 +101,25 @@ where
     sum
 }
 
-// The first place that cannot be read, by row and then by place.
-pub fn first_hole<S: Shelf>(shelf: &S, rows: usize, places: usize) -> Option<(usize, usize)>
+// The first place that cannot be read, by row and then by place, of a stretch of so many places that is alike in all rows.
+// The place is counted from the start of the stretch.
+pub fn first_hole<S: Shelf>(
+    shelf: &S,
+    rows: usize,
+    start: usize,
+    places: usize,
+) -> Option<(usize, usize)>
 where
     S::Symbol: Field,
-    ensures { result ≡ lowest-pair rows places (λ row place. is-hole ((S.Shelf.contents shelf.now).at row place)) }
+    ensures { start + places < 2 ^ 64 → result ≡ lowest-pair rows places (λ row t. is-hole ((S.Shelf.contents shelf.now).at row (start + t))) }
 {
     let mut found = None;
     'rows: for row in 0..rows {
-        for place in 0..places {
-            match shelf.get(row, place) {
+        for offset in 0..places {
+            match shelf.get(row, start.saturating_add(offset)) {
                 Got::Symbol(_) => {}
                 _ => {
-                    found = Some((row, place));
+                    found = Some((row, offset));
                     break 'rows;
                 }
             }
@@ -120,25 +128,88 @@ where
     found
 }
 
-// The first place of the first parity row that does not fit, by parity row and then by place of the block. The parity row is named by its index i, not
-// by its row k + i.
-pub fn first_misfit<S: Shelf>(shelf: &S, sizes: Sizes) -> Option<(usize, usize)>
+// The first place of the first parity row that does not fit, by parity row and then by place, of a stretch of places. The parity row is named by its
+// index i, not by its row k + i, and the place is counted from the start of the stretch.
+pub fn first_misfit<S: Shelf>(
+    shelf: &S,
+    sizes: Sizes,
+    start: usize,
+    places: usize,
+) -> Option<(usize, usize)>
 where
     S::Symbol: Field,
-    ensures { sizes.parity_rows ≤ 4 → sizes.data_rows ≤ 64 → sizes.data_rows + 4 ≤ S.Symbol.Field.algebra.size → result ≡ lowest-pair sizes.parity_rows sizes.block_length (misfit S.Symbol.Field.algebra (seen S.Symbol.Field.meaning sizes (S.Shelf.contents shelf.now))) }
+    ensures { start + places < 2 ^ 64 → fits S.Symbol.Field.algebra (seen S.Symbol.Field.meaning sizes (S.Shelf.contents shelf.now)) ≡ true → result ≡ lowest-pair sizes.parity_rows places (λ i t. misfit S.Symbol.Field.algebra (seen S.Symbol.Field.meaning sizes (S.Shelf.contents shelf.now)) i (start + t)) }
 {
     let mut found = None;
     'rows: for i in 0..sizes.parity_rows {
         let coefficients = coefficient_row::<S::Symbol>(i, sizes.data_rows);
-        for place in 0..sizes.block_length {
+        for t in 0..places {
+            let place = start.saturating_add(t);
             let fitting = combination(shelf, &coefficients, sizes.data_rows, place);
             if !fitting.equals(symbol_at(shelf, sizes.data_rows.saturating_add(i), place)) {
-                found = Some((i, place));
+                found = Some((i, t));
                 break 'rows;
             }
         }
     }
     found
+}
+
+// The lowest place of a row that cannot be read.
+fn lowest_hole<S: Shelf>(shelf: &S, row: usize, places: usize) -> Option<usize>
+where
+    S::Symbol: Field,
+    ensures { result ≡ lowest places (λ place. is-hole ((S.Shelf.contents shelf.now).at row place)) }
+{
+    for place in 0..places {
+        match shelf.get(row, place) {
+            Got::Symbol(_) => {}
+            _ => return Some(place),
+        }
+    }
+    None
+}
+
+// The lowest component of a row's card that differs from the fresh one.
+fn lowest_wrong_component<S: Shelf>(shelf: &S, sizes: Sizes, row: usize) -> Option<usize>
+where
+    S::Symbol: Field,
+    ensures { sizes.block_length + sizes.card_length < 2 ^ 64 → result ≡ lowest sizes.card_length (λ c. differ S.Symbol.Field.algebra (component S.Symbol.Field.algebra sizes.block_length (element-at S.Symbol.Field.algebra S.Symbol.Field.meaning (S.Shelf.contents shelf.now) row) c) (element-at S.Symbol.Field.algebra S.Symbol.Field.meaning (S.Shelf.contents shelf.now) row (sizes.block_length + c))) }
+{
+    for component in 0..sizes.card_length {
+        let fresh = fresh_component(shelf, row, sizes.block_length, component);
+        if !fresh.equals(symbol_at(shelf, row, sizes.block_length.saturating_add(component))) {
+            return Some(component);
+        }
+    }
+    None
+}
+
+// The verdict of one row: a hole, failing that a card that is not fresh, otherwise sound.
+pub fn audit<S: Shelf>(shelf: &S, sizes: Sizes, row: usize) -> Verdict
+where
+    S::Symbol: Field,
+    ensures { fits S.Symbol.Field.algebra (seen S.Symbol.Field.meaning sizes (S.Shelf.contents shelf.now)) ≡ true → result ≡ audited S.Symbol.Field.algebra (seen S.Symbol.Field.meaning sizes (S.Shelf.contents shelf.now)) row }
+{
+    let places = sizes.block_length.saturating_add(sizes.card_length);
+    if let Some(place) = lowest_hole(shelf, row, places) {
+        return Verdict::Hole(place);
+    }
+    match lowest_wrong_component(shelf, sizes, row) {
+        Some(component) => Verdict::Card(component),
+        None => Verdict::Sound,
+    }
+}
+
+// Copies symbols of a row into a buffer, from a start on.
+pub fn copy_span<S: Shelf>(shelf: &S, row: usize, start: usize, buffer: &mut [S::Symbol])
+where
+    S::Symbol: Field,
+    ensures { start + length buffer.old < 2 ^ 64 → (sizes : Sizes-of) → map S.Symbol.Field.meaning buffer.new ≡ span S.Symbol.Field.algebra (seen S.Symbol.Field.meaning sizes (S.Shelf.contents shelf.now)) row start (length buffer.old) }
+{
+    for (i, slot) in buffer.iter_mut().enumerate() {
+        *slot = symbol_at(shelf, row, start.saturating_add(i));
+    }
 }
 
 // Puts the card of one row, worked afresh.

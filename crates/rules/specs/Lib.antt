@@ -4,6 +4,7 @@ pub mod States
 pub mod Views
 pub mod Calls
 pub mod Updates
+pub mod Sheets
 pub mod Promises
 pub mod Twins
 pub mod Exact

@@ -1,9 +1,12 @@
 // The types that a tray's answers are made of. What they mean, and what every call promises, stands in specs/.
 #![tactic(auto)]
 
-ghost use Rattle.std.specs.Prelude.{◌≡◌};
+ghost use Rattle.std.specs.Prelude.{◌≡◌, ◌+◌, ◌^◌, ◌<◌, not, slice_set};
 ghost use Rattle.rules.specs.Calls.{own-number, layer as layer-of, is-sound};
-ghost use Rattle.rules.specs.States.{within-limits};
+ghost use Rattle.rules.specs.Search.{counted, lowest};
+ghost use Rattle.rules.specs.Sheets.{entered, entry-at, next-row, tallied, turn-answer, turned};
+ghost use Rattle.rules.specs.States.{unread, within-limits};
+ghost use Rattle.rules.specs.Updates.{entry-bad, entry-sound};
 
 // The four sizes of a tray.
 #[derive(Clone, Copy, PartialEq, Eq, Debug)]
@@ -61,10 +64,88 @@ pub struct Record {
     pub entry: Entry,
 }
 
+impl Record {
+    pub fn enter(&mut self, verdict: Verdict)
+        ensures { self.new ≡ entered verdict }
+    {
+        self.entry = Entry::Read(verdict);
+    }
+}
+
 // The results of a scrub pass: one record for each row that a tray could have.
 #[derive(Drop)]
 pub struct Sheet {
     pub records: [Record; 68],
+}
+
+impl Sheet {
+    pub fn unread() -> Sheet
+        ensures { result ≡ unread }
+    {
+        Sheet {
+            records: [Record {
+                entry: Entry::Unread,
+            }; 68],
+        }
+    }
+
+    // What the sheet says of a row; nothing is read of a row that it has no record for.
+    pub fn entry(&self, row: usize) -> Entry
+        ensures { result ≡ entry-at self.now row }
+    {
+        if row < self.records.len() {
+            self.records[row].entry
+        } else {
+            Entry::Unread
+        }
+    }
+
+    // Enters a verdict in the record of a row, where there is one.
+    pub fn enter(&mut self, row: usize, verdict: Verdict)
+        ensures { self.new.records ≡ slice_set self.old.records row (entered verdict) }
+    {
+        if row < self.records.len() {
+            self.records[row].enter(verdict);
+        }
+    }
+
+    // How many of the rows were entered as sound, and how many were not.
+    pub fn totals(&self, rows: usize) -> (usize, usize)
+        ensures sound { result.0 ≡ counted rows (λ r. entry-sound (entry-at self.now r)) }
+        ensures others { result.1 ≡ counted rows (λ r. not (entry-sound (entry-at self.now r))) }
+    {
+        let mut totals = (0, 0);
+        for row in 0..rows {
+            totals = tally(totals, self.entry(row));
+        }
+        totals
+    }
+
+    // The lowest of the rows that was entered as not sound.
+    pub fn first_unsound(&self, rows: usize) -> Option<usize>
+        ensures { result ≡ lowest rows (λ r. entry-bad (entry-at self.now r)) }
+    {
+        for row in 0..rows {
+            if let Entry::Read(verdict) = self.entry(row) {
+                if !verdict.is_sound() {
+                    return Some(row);
+                }
+            }
+        }
+        None
+    }
+}
+
+// One entry more, in the sound ones or in the others.
+fn tally(totals: (usize, usize), entry: Entry) -> (usize, usize)
+    requires { totals.0 + totals.1 + 1 < 2 ^ 64 }
+    ensures { result ≡ tallied totals entry }
+{
+    let (sound, others) = totals;
+    match entry {
+        Entry::Read(Verdict::Sound) => (sound + 1, others),
+        _ => (sound, others + 1),
+    }
 }
 
 // A scrub pass over the rows.
@@ -73,6 +154,46 @@ pub enum Round {
     Resting,
     Walking(usize),
     Over,
+}
+
+// What the patrol asks of a round.
+#[derive(Clone, Copy, PartialEq, Eq, Debug)]
+pub enum Action {
+    Begin,
+    Step,
+    Totals,
+}
+
+impl Round {
+    // Takes an action on a tray of so many rows. It answers the row at which the round begins, the row that a step audits, or how many rows were walked.
+    pub fn act(&mut self, action: Action, rows: usize) -> Result<usize, Refusal>
+        ensures answer { result ≡ turn-answer self.old action rows }
+        ensures after { self.new ≡ turned self.old action rows }
+    {
+        match (*self, action) {
+            (Round::Walking(row), Action::Begin) => Err(Refusal::StillWalking(row)),
+            (_, Action::Begin) => {
+                *self = Round::Walking(0);
+                Ok(0)
+            }
+            (Round::Walking(row), Action::Step) => {
+                *self = following(row, rows);
+                Ok(row)
+            }
+            (Round::Over, Action::Totals) => Ok(rows),
+            (_, Action::Step | Action::Totals) => Err(Refusal::WrongPhase),
+        }
+    }
+}
+
+// The round after the step at a row: at the next row, or over.
+fn following(row: usize, rows: usize) -> Round
+    ensures { result ≡ next-row row rows }
+{
+    match row.checked_add(1) {
+        Some(next) if next < rows => Round::Walking(next),
+        _ => Round::Over,
+    }
 }
 
 // Why a call was refused.

@@ -1,45 +1,202 @@
 -- From what a call tested to its promise.
-use Rattle.std.proofs.Common.{◌≡◌, ℕ, ◌+◌, true, false, Some, None, sym, subst}
+use Rattle.std.proofs.Common.{◌≡◌, ◌≢◌, ℕ, ◌+◌, ◌<◌, ◌≤◌, Bool, true, false, not, eqb, ltb, leb, List, length, Some, None, Option, Ok, Err, sym, refl, ap, ◌∙◌, subst, subst₂, ap₂, arith, le-leb, zero-add, set}
+use mathlib.Core.Path.{fun_ext}
+use borrow.Author.Tests.{lt-leb}
+use Rattle.std.proofs.lemmas.Bool.Decides.{nat_tests}
 use Rattle.algebra.specs.Algebra.{Field}
 use Rattle.shelves.specs.Contents.{Contents, is-hole}
-use Rattle.rules.specs.Calls.{fit, intake, done, refused}
-use Rattle.rules.specs.Promises.{Promise, accepted, did-fit, did-intake}
-use Rattle.rules.specs.Search.{lowest-pair}
-use Rattle.rules.specs.States.{State, k, p, n, cell, fits, misfit, with-cells}
-use Rattle.rules.specs.Updates.{carded}
-use Rattle.rules.specs.declared.Refusal.TheVariants.{DoesNotFit, TakenInAlready, Unreadable, Misfit}
+use Rattle.rules.specs.Calls.{Call, fit, intake, audit, read, cross, begin, step, totals, record_of, first, Answer, done, judged, copied, counts, entry-is, lowest-is, refused, wants-intake}
+use Rattle.rules.specs.Promises.{Promise, accepted, did-fit, did-intake, did-audit, did_read, did-cross, did-begin, did-step, did-totals, did-record, did-first}
+use Rattle.rules.specs.Search.{lowest, lowest-pair, counted}
+use Rattle.rules.specs.Sheets.{entered, turn-answer, turned, next-row}
+use Rattle.rules.specs.States.{State, unread, k, p, n, m, cell, fits, audited, sound, misfit, with-cells}
+use Rattle.rules.specs.Updates.{allowed, carded, span, entry_of, entry-sound, entry-bad, walking, over}
+use Rattle.rules.specs.declared.Action.TheVariants.{Begin, Step, Totals}
+use Rattle.rules.specs.declared.Refusal.{Refusal}
+use Rattle.rules.specs.declared.Refusal.TheVariants.{DoesNotFit, NotTakenIn, TakenInAlready, NoSuchRow, BadSpan, Unsound, Unreadable, Misfit, WrongPhase, StillWalking}
+use Rattle.rules.specs.declared.Round.{Round}
+use Rattle.rules.specs.declared.Round.TheVariants.{Resting, Walking, Over}
+use Rattle.rules.specs.declared.Sheet.{Sheet}
+use Rattle.rules.specs.declared.Verdict.{Verdict}
 use Rattle.rules.specs.Views.{seen-cell, same-hole}
 use Rattle.rules.proofs.Found.{lowest-pair-alike}
-use Rattle.rules.proofs.Refusals.{unrefused, refused-promise}
+use Rattle.rules.proofs.Refusals.{unrefused, refused-promise, walks_at}
 
--- a shelf's holes are those of the state
-pub holes_seen : {X A : Type 0} (meaning : X → A) (held : Contents X) (rows places : ℕ)
-    → lowest-pair rows places (λ r t. is-hole (held.at r t)) ≡ lowest-pair rows places (λ r t. is-hole (seen-cell meaning (held.at r t)))
-holes_seen meaning held rows places = lowest-pair-alike rows places _ _ (λ r t h l. sym (same-hole meaning (held.at r t)))
+-- a stretch that starts at place 0
+pub from-start : (rows places : ℕ) (test : ℕ → ℕ → Bool) → lowest-pair rows places (λ r t. test r (0 + t)) ≡ lowest-pair rows places test
+from-start rows places test = lowest-pair-alike rows places _ _ (λ r t h l. ap (test r) (zero-add t))
+
+-- the first hole of a stretch, as code finds it on the shelf, is that of the state
+pub stretch-holes : {X A : Type 0} (meaning : X → A) (held : Contents X) (rows rows' start places : ℕ) (o : Option (ℕ × ℕ)) → rows' ≡ rows
+    → o ≡ lowest-pair rows' places (λ r t. is-hole (held.at r (start + t))) → lowest-pair rows places (λ r t. is-hole (seen-cell meaning (held.at r (start + t)))) ≡ o
+stretch-holes meaning held rows rows' start places o all found =
+    lowest-pair-alike rows places _ _ (λ r t h l. same-hole meaning (held.at r (start + t)))
+    ∙ ap (λ v. lowest-pair v places (λ r t. is-hole (held.at r (start + t)))) (sym all) ∙ sym found
+
+-- what an action of a round met, by its answer
+began : (r : Round) (rows x : ℕ) → turn-answer r Begin rows ≡ Ok x → (walks_at r ≡ None) × (turned r Begin rows ≡ Walking 0)
+began Resting rows x e = (refl, refl)
+began (Walking row) rows x e = let z : ◌≡◌ {A = ℕ} 0 1 = cc in absurd (omega arith)
+began Over rows x e = (refl, refl)
+
+not-begun : (r : Round) (rows : ℕ) (q : Refusal) → turn-answer r Begin rows ≡ Err q → (row : ℕ) × (r ≡ Walking row) × (q ≡ StillWalking row) × (turned r Begin rows ≡ r)
+not-begun Resting rows q e = let z : ◌≡◌ {A = ℕ} 0 1 = cc in absurd (omega arith)
+not-begun (Walking row) rows q e = (row, refl, cc, refl)
+not-begun Over rows q e = let z : ◌≡◌ {A = ℕ} 0 1 = cc in absurd (omega arith)
+
+stepped : (r : Round) (rows x : ℕ) → turn-answer r Step rows ≡ Ok x → (r ≡ Walking x) × (turned r Step rows ≡ next-row x rows)
+stepped Resting rows x e = let z : ◌≡◌ {A = ℕ} 0 1 = cc in absurd (omega arith)
+stepped (Walking row) rows x e = let same : row ≡ x = cc in (ap Walking same, ap (λ v. next-row v rows) same)
+stepped Over rows x e = let z : ◌≡◌ {A = ℕ} 0 1 = cc in absurd (omega arith)
+
+not-stepped : (r : Round) (rows : ℕ) (q : Refusal) → turn-answer r Step rows ≡ Err q → (walking r ≡ false) × (q ≡ WrongPhase) × (turned r Step rows ≡ r)
+not-stepped Resting rows q e = (refl, cc, refl)
+not-stepped (Walking row) rows q e = let z : ◌≡◌ {A = ℕ} 0 1 = cc in absurd (omega arith)
+not-stepped Over rows q e = (refl, cc, refl)
+
+totalled : (r : Round) (rows x : ℕ) → turn-answer r Totals rows ≡ Ok x → (over r ≡ true) × (x ≡ rows) × (turned r Totals rows ≡ r)
+totalled Resting rows x e = let z : ◌≡◌ {A = ℕ} 0 1 = cc in absurd (omega arith)
+totalled (Walking row) rows x e = let z : ◌≡◌ {A = ℕ} 0 1 = cc in absurd (omega arith)
+totalled Over rows x e = (refl, cc, refl)
+
+not-totalled : (r : Round) (rows : ℕ) (q : Refusal) → turn-answer r Totals rows ≡ Err q → (over r ≡ false) × (q ≡ WrongPhase) × (turned r Totals rows ≡ r)
+not-totalled Resting rows q e = (refl, cc, refl)
+not-totalled (Walking row) rows q e = (refl, cc, refl)
+not-totalled Over rows q e = let z : ◌≡◌ {A = ℕ} 0 1 = cc in absurd (omega arith)
 
 module _ {A : Type 0} (F : Field A) (s : State A) where
-  pub fit_refused : fits F s ≡ false → Promise F s fit (refused DoesNotFit) s
-  fit_refused e = refused-promise F s fit DoesNotFit (rw e)
+  -- the tray with another round and another sheet
+  abbrev pub with-round : Round → Sheet → State A
+  with-round round sheet = record { sizes = s.sizes; contents = s.contents; taken_in = s.taken_in; round = round; sheet = sheet }
+
+  pub unfit-refused : (c : Call A) → fits F s ≡ false → Promise F s c (refused DoesNotFit) s
+  unfit-refused c e = refused-promise F s c DoesNotFit (rw e)
 
   pub fit-accepted : fits F s ≡ true → Promise F s fit done s
   fit-accepted e = accepted (unrefused F s fit (rw e)) did-fit
 
-  pub intake-unfit : fits F s ≡ false → Promise F s intake (refused DoesNotFit) s
-  intake-unfit e = refused-promise F s intake DoesNotFit (rw e)
-
   pub intake-again : fits F s ≡ true → s.taken_in ≡ true → Promise F s intake (refused TakenInAlready) s
   intake-again e t = refused-promise F s intake TakenInAlready (rw (e, t))
+
+  pub early-refused : (c : Call A) → wants-intake c ≡ true → fits F s ≡ true → s.taken_in ≡ false → Promise F s c (refused NotTakenIn) s
+  early-refused c w e t = refused-promise F s c NotTakenIn (rw (e, w, t))
 
   module _ (e : fits F s ≡ true) (t : s.taken_in ≡ false) where
     pub intake-hole : (row place : ℕ) → lowest-pair (k s + p s) (n s) (λ r u. is-hole (cell s r u)) ≡ Some (row, place) → Promise F s intake (refused (Unreadable row place)) s
     intake-hole row place h = refused-promise F s intake (Unreadable row place) (rw (e, t, h))
 
     module _ (h : lowest-pair (k s + p s) (n s) (λ r u. is-hole (cell s r u)) ≡ None) where
-      pub intake-misfit : (i place : ℕ) → lowest-pair (p s) (n s) (misfit F s) ≡ Some (i, place) → Promise F s intake (refused (Misfit (k s + i) place)) s
-      intake-misfit i place f = refused-promise F s intake (Misfit (k s + i) place) (rw (e, t, h, f))
+      pub intake-misfit : (i row place : ℕ) → row ≡ k s + i → lowest-pair (p s) (n s) (misfit F s) ≡ Some (i, place) → Promise F s intake (refused (Misfit row place)) s
+      intake-misfit i row place of f =
+          subst (λ (r : ℕ). Promise F s intake (refused (Misfit r place)) s) (sym of) (refused-promise F s intake (Misfit (k s + i) place) (rw (e, t, h, f)))
 
       pub intake-taken : lowest-pair (p s) (n s) (misfit F s) ≡ None → (held : Contents A) → held ≡ (with-cells s (carded F s)).contents
           → Promise F s intake done (record { sizes = s.sizes; contents = held; taken_in = true; round = s.round; sheet = s.sheet })
       intake-taken f held is =
           subst (λ (v : Contents A). Promise F s intake done (record { sizes = s.sizes; contents = v; taken_in = true; round = s.round; sheet = s.sheet })) (sym is)
           (accepted (unrefused F s intake (rw (e, t, h, f))) did-intake)
+
+  -- an allowed span ends in the block
+  pub allowed-fits : (start count : ℕ) → allowed s start count ≡ true → start + count ≤ n s
+  allowed-fits start count a = grind (arith, nat_tests)
+
+  -- calls on a tray that is taken in
+  module _ (e : fits F s ≡ true) (t : s.taken_in ≡ true) where
+    pub audit-no-row : (row : ℕ) → k s + p s ≤ row → Promise F s (audit row) (refused (NoSuchRow row)) s
+    audit-no-row row h = refused-promise F s (audit row) (NoSuchRow row) (rw (e, t, le-leb _ _ h))
+
+    pub audit-judged : (row : ℕ) (v : Verdict) → row < k s + p s → v ≡ audited F s row → Promise F s (audit row) (judged v) s
+    audit-judged row v h is =
+        subst (λ v. Promise F s (audit row) (judged v) s) (sym is) (accepted (unrefused F s (audit row) (rw (e, t, lt-leb _ _ h))) (did-audit row))
+
+    module _ (row start count : ℕ) where
+      pub read-no-row : k s + p s ≤ row → Promise F s (read row start count) (refused (NoSuchRow row)) s
+      read-no-row h = refused-promise F s (read row start count) (NoSuchRow row) (rw (e, t, le-leb _ _ h))
+
+      module _ (h : row < k s + p s) where
+        pub read-long : allowed s start count ≡ false → Promise F s (read row start count) (refused (BadSpan start)) s
+        read-long a = refused-promise F s (read row start count) (BadSpan start) (rw (e, t, lt-leb _ _ h, a))
+
+        module _ (a : allowed s start count ≡ true) where
+          pub read-unsound : (v : Verdict) → v ≡ audited F s row → sound F s row ≡ false → Promise F s (read row start count) (refused (Unsound row v)) s
+          read-unsound v is b =
+              subst (λ v. Promise F s (read row start count) (refused (Unsound row v)) s) (sym is)
+              (refused-promise F s (read row start count) (Unsound row (audited F s row)) (rw (e, t, lt-leb _ _ h, a, b)))
+
+          pub read-copied : (xs : List A) → sound F s row ≡ true → xs ≡ span F s row start count → Promise F s (read row start count) (copied xs) s
+          read-copied xs b is =
+              subst (λ xs. Promise F s (read row start count) (copied xs) s) (sym is)
+              (accepted (unrefused F s (read row start count) (rw (e, t, lt-leb _ _ h, a, b))) (did_read row start count))
+
+    pub cross-hole : (row c place : ℕ) → place ≡ n s + c → lowest-pair (k s + p s) (m s) (λ r u. is-hole (cell s r (n s + u))) ≡ Some (row, c)
+        → Promise F s cross (refused (Unreadable row place)) s
+    cross-hole row c place at h =
+        subst (λ (v : ℕ). Promise F s cross (refused (Unreadable row v)) s) (sym at) (refused-promise F s cross (Unreadable row (n s + c)) (rw (e, t, h)))
+
+    module _ (h : lowest-pair (k s + p s) (m s) (λ r u. is-hole (cell s r (n s + u))) ≡ None) where
+      pub cross-misfit : (i c row place : ℕ) → row ≡ k s + i → place ≡ n s + c → lowest-pair (p s) (m s) (λ i u. misfit F s i (n s + u)) ≡ Some (i, c)
+          → Promise F s cross (refused (Misfit row place)) s
+      cross-misfit i c row place of at f =
+          subst₂ (λ (r v : ℕ). Promise F s cross (refused (Misfit r v)) s) (sym of) (sym at) (refused-promise F s cross (Misfit (k s + i) (n s + c)) (rw (e, t, h, f)))
+
+      pub cross-fitting : lowest-pair (p s) (m s) (λ i u. misfit F s i (n s + u)) ≡ None → Promise F s cross done s
+      cross-fitting f = accepted (unrefused F s cross (rw (e, t, h, f))) did-cross
+
+    begin-still : (row : ℕ) → s.round ≡ Walking row → Promise F s begin (refused (StillWalking row)) s
+    begin-still row w = refused-promise F s begin (StillWalking row) (rw (e, t, w))
+
+    module _ (rows : ℕ) (round : Round) where
+      pub begin-refused : (q : Refusal) → turn-answer s.round Begin rows ≡ Err q → round ≡ turned s.round Begin rows → Promise F s begin (refused q) (with-round round s.sheet)
+      begin-refused q a is =
+          let z = not-begun s.round rows q a in
+          subst (λ o. Promise F s begin (refused q) (with-round o s.sheet)) (sym (is ∙ z.3))
+          (subst (λ q. Promise F s begin (refused q) s) (sym z.2) (begin-still z.0 z.1))
+
+      pub begin-accepted : (x : ℕ) (sheet : Sheet) → turn-answer s.round Begin rows ≡ Ok x → round ≡ turned s.round Begin rows → sheet ≡ unread
+          → Promise F s begin done (with-round round sheet)
+      begin-accepted x sheet a is new =
+          let z = began s.round rows x a in
+          subst (λ o. Promise F s begin done (with-round o sheet)) (sym (is ∙ z.1))
+          (subst (λ v. Promise F s begin done (with-round (Walking 0) v)) (sym new) (accepted (unrefused F s begin (rw (e, t, z.0))) did-begin))
+
+      pub step-refused : (q : Refusal) → turn-answer s.round Step rows ≡ Err q → round ≡ turned s.round Step rows → Promise F s step (refused q) (with-round round s.sheet)
+      step-refused q a is =
+          let z = not-stepped s.round rows q a in
+          subst (λ o. Promise F s step (refused q) (with-round o s.sheet)) (sym (is ∙ z.2))
+          (subst (λ q. Promise F s step (refused q) s) (sym z.1) (refused-promise F s step WrongPhase (rw (e, t, z.0))))
+
+      pub totals-refused : (q : Refusal) → turn-answer s.round Totals rows ≡ Err q → round ≡ turned s.round Totals rows → Promise F s totals (refused q) (with-round round s.sheet)
+      totals-refused q a is =
+          let z = not-totalled s.round rows q a in
+          subst (λ o. Promise F s totals (refused q) (with-round o s.sheet)) (sym (is ∙ z.2))
+          (subst (λ q. Promise F s totals (refused q) s) (sym z.1) (refused-promise F s totals WrongPhase (rw (e, t, z.0))))
+
+      pub totals-counted : (x : ℕ) (pair : ℕ × ℕ) → turn-answer s.round Totals rows ≡ Ok x → round ≡ turned s.round Totals rows → rows ≡ k s + p s
+          → pair.0 ≡ counted x (λ r. entry-sound (entry_of s r)) → pair.1 ≡ counted x (λ r. not (entry-sound (entry_of s r)))
+          → Promise F s totals (counts pair.0 pair.1) (with-round round s.sheet)
+      totals-counted x pair a is all b c =
+          let z = totalled s.round rows x a in
+          subst (λ o. Promise F s totals (counts pair.0 pair.1) (with-round o s.sheet)) (sym (is ∙ z.2))
+          (subst (λ v. Promise F s totals v s)
+          (sym (ap₂ counts (b ∙ ap (λ v. counted v (λ r. entry-sound (entry_of s r))) (z.1 ∙ all)) (c ∙ ap (λ v. counted v (λ r. not (entry-sound (entry_of s r)))) (z.1 ∙ all))))
+          (accepted (unrefused F s totals (rw (e, t, z.0))) did-totals))
+
+    pub step-judged : (x : ℕ) (round : Round) (sheet : Sheet) (v : Verdict) → turn-answer s.round Step (k s + p s) ≡ Ok x → round ≡ turned s.round Step (k s + p s)
+        → v ≡ audited F s x → sheet.records ≡ set s.sheet.records x (entered v) → Promise F s step (judged v) (with-round round sheet)
+    step-judged x round sheet v a is found records =
+        let z = stepped s.round (k s + p s) x a in
+        let at : sheet ≡ record { records = set s.sheet.records x (entered (audited F s x)) } = ap (λ l. record { records = l }) (records ∙ ap (λ v. set s.sheet.records x (entered v)) found) in
+        subst (λ v. Promise F s step (judged v) (with-round round sheet)) (sym found)
+        (subst (λ o. Promise F s step (judged (audited F s x)) (with-round o sheet)) (sym (is ∙ z.1))
+        (subst (λ (u : Sheet). Promise F s step (judged (audited F s x)) (with-round (next-row x (k s + p s)) u)) (sym at)
+        (accepted (unrefused F s step (rw (e, t, z.0))) (did-step x z.0))))
+
+    pub record-no-row : (row : ℕ) → k s + p s ≤ row → Promise F s (record_of row) (refused (NoSuchRow row)) s
+    record-no-row row h = refused-promise F s (record_of row) (NoSuchRow row) (rw (e, t, le-leb _ _ h))
+
+    pub record-answered : (row : ℕ) → row < k s + p s → Promise F s (record_of row) (entry-is (entry_of s row)) s
+    record-answered row h = accepted (unrefused F s (record_of row) (rw (e, t, lt-leb _ _ h))) (did-record row)
+
+    pub first-answered : (rows : ℕ) → rows ≡ k s + p s → Promise F s first (lowest-is (lowest rows (λ r. entry-bad (entry_of s r)))) s
+    first-answered rows all =
+        subst (λ v. Promise F s first (lowest-is (lowest v (λ r. entry-bad (entry_of s r)))) s) (sym all) (accepted (unrefused F s first (rw (e, t))) did-first)

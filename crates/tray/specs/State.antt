@@ -1,8 +1,10 @@
 -- The state that promises speak of, from a tray over any shelf; and what a call's result answers.
-use Rattle.std.specs.Prelude.{Ok, Err, Result}
+use Rattle.std.specs.Prelude.{◌≡◌, ℕ, true, List, map, Ok, Err, Result}
+use Rattle.algebra.specs.Algebra.{Field}
 use Rattle.shelves.specs.Contents.{Contents}
-use Rattle.rules.specs.Calls.{Answer, done, refused}
-use Rattle.rules.specs.States.{State}
+use Rattle.rules.specs.Calls.{Call, Answer, done, copied, counts, refused, wants-intake}
+use Rattle.rules.specs.Promises.{Promise}
+use Rattle.rules.specs.States.{State, fits}
 use Rattle.rules.specs.Views.{seen-contents}
 use Rattle.rules.specs.declared.Refusal.{Refusal}
 use Rattle.tray.specs.declared.Tray.{Tray}
@@ -17,7 +19,24 @@ state contents meaning t = record {
   sheet = t.sheet;
 }
 
+-- what a result answers: an accepted call what it returns, as an answer, and a refused one its refusal
+abbrev pub answer-by : {A T : Type 0} → (T → Answer A) → Result T Refusal → Answer A
+answer-by answer (Ok x) = answer x
+answer-by answer (Err r) = refused r
+
 -- an accepted call with nothing else to return answers 0
 abbrev pub answer-of : {A : Type 0} → Result (Unit {0}) Refusal → Answer A
-answer-of (Ok u) = done
-answer-of (Err r) = refused r
+answer-of = answer-by (λ u. done)
+
+-- a read answers what its buffer holds afterwards
+abbrev pub read-answer : {X A : Type 0} → (X → A) → List X → Result (Unit {0}) Refusal → Answer A
+read-answer meaning buffer = answer-by (λ u. copied (map meaning buffer))
+
+-- a pair of counts: the sound rows and the others
+abbrev pub counts-of : {A : Type 0} → ℕ × ℕ → Answer A
+counts-of pair = counts pair.0 pair.1
+
+-- What the checks that all calls on a tray share come to: the tray fits and is taken in; or every such call is refused.
+abbrev pub Ready : {A : Type 0} → Field A → State A → Result (Unit {0}) Refusal → Type 0
+Ready F s (Ok u) = (fits F s ≡ true) × (s.taken_in ≡ true)
+Ready {A} F s (Err r) = (c : Call A) → wants-intake c ≡ true → Promise F s c (refused r) s

@@ -1,16 +1,19 @@
 // A tray: a redundancy group over any shelf, and its calls.
 #![tactic(auto)]
 
-ghost use Rattle.std.specs.Prelude.{◌≡◌};
-ghost use Rattle.rules.specs.Calls.{fit as fit-call, intake as intake-call};
+ghost use Rattle.std.specs.Prelude.{◌≡◌, ◌+◌, ◌^◌, ◌<◌, length, OnErr};
+ghost use Rattle.rules.specs.Calls.{fit as fit-call, intake as intake-call, audit as audit-call, read as read-call, cross as cross-call};
+ghost use Rattle.rules.specs.Calls.{begin as begin-call, step as step-call, totals as totals-call, record_of as record-call, first as first-call};
+ghost use Rattle.rules.specs.Calls.{judged, entry-is, lowest-is};
 ghost use Rattle.rules.specs.Exact.{IntakeExact};
 ghost use Rattle.rules.specs.Promises.{Promise};
 ghost use Rattle.rules.specs.States.{fits};
+ghost use Rattle.rules.specs.Updates.{allowed};
 ghost use Rattle.rules.specs.Views.{seen};
-ghost use Rattle.tray.specs.State.{state, answer-of};
+ghost use Rattle.tray.specs.State.{state, answer-of, answer-by, read-answer, counts-of, Ready};
 
 use algebra::Field;
-use rules::{Entry, Record, Refusal, Round, Sheet, Sizes};
+use rules::{Action, Entry, Refusal, Round, Sheet, Sizes, Verdict};
 use shelves::Shelf;
 
 #[derive(Drop)]
@@ -36,11 +39,7 @@ where
             sizes,
             taken_in: false,
             round: Round::Resting,
-            sheet: Sheet {
-                records: [Record {
-                    entry: Entry::Unread,
-                }; 68],
-            },
+            sheet: Sheet::unread(),
         }
     }
 
@@ -92,15 +91,161 @@ where
         if self.taken_in {
             return Err(Refusal::TakenInAlready);
         }
-        let rows = self.sizes.data_rows.saturating_add(self.sizes.parity_rows);
-        if let Some((row, place)) = rows::first_hole(&self.shelf, rows, self.sizes.block_length) {
+        let rows = self.rows();
+        if let Some((row, place)) = rows::first_hole(
+            &self.shelf,
+            rows,
+            0,
+            self.sizes.block_length,
+        ) {
             return Err(Refusal::Unreadable(row, place));
         }
-        if let Some((i, place)) = rows::first_misfit(&self.shelf, self.sizes) {
+        if let Some((i, place)) = rows::first_misfit(
+            &self.shelf,
+            self.sizes,
+            0,
+            self.sizes.block_length,
+        ) {
             return Err(Refusal::Misfit(self.sizes.data_rows.saturating_add(i), place));
         }
         rows::put_cards(&mut self.shelf, self.sizes);
         self.taken_in = true;
         Ok(())
+    }
+
+    // How many rows a tray that fits has.
+    fn rows(&self) -> usize
+        ensures { self.now.sizes.data_rows + self.now.sizes.parity_rows < 2 ^ 64 → result ≡ self.now.sizes.data_rows + self.now.sizes.parity_rows }
+    {
+        self.sizes.data_rows.saturating_add(self.sizes.parity_rows)
+    }
+
+    // The checks that all calls but fit and intake share.
+    fn ready(&self) -> Result<(), Refusal>
+        ensures { Ready S.Symbol.Field.algebra (state S.Shelf.contents S.Symbol.Field.meaning self.now) result }
+    {
+        if !self.fits() {
+            return Err(Refusal::DoesNotFit);
+        }
+        if !self.taken_in {
+            return Err(Refusal::NotTakenIn);
+        }
+        Ok(())
+    }
+
+    // Whether a span of the block is allowed; the sum of start and count may overflow, so they are compared one by one.
+    fn allows(&self, start: usize, count: usize) -> bool
+        ensures { result ≡ allowed (state S.Shelf.contents S.Symbol.Field.meaning self.now) start count }
+    {
+        start <= self.sizes.block_length && count <= self.sizes.block_length - start
+    }
+
+    // The verdict of one row.
+    pub fn audit(&self, row: usize) -> Result<Verdict, Refusal>
+        ensures { Promise S.Symbol.Field.algebra (state S.Shelf.contents S.Symbol.Field.meaning self.now) (audit-call row) (answer-by judged result) (state S.Shelf.contents S.Symbol.Field.meaning self.now) }
+    {
+        self.ready()?;
+        if row >= self.rows() {
+            return Err(Refusal::NoSuchRow(row));
+        }
+        Ok(rows::audit(&self.shelf, self.sizes, row))
+    }
+
+    // Copies a span of a sound row's block into the buffer, as many symbols as the buffer has.
+    pub fn read(&self, row: usize, start: usize, buffer: &mut [S::Symbol]) -> Result<(), Refusal>
+        ensures promise { Promise S.Symbol.Field.algebra (state S.Shelf.contents S.Symbol.Field.meaning self.now) (read-call row start (length buffer.old)) (read-answer S.Symbol.Field.meaning buffer.new result) (state S.Shelf.contents S.Symbol.Field.meaning self.now) }
+        ensures refused { OnErr result (buffer.new ≡ buffer.old) }
+    {
+        self.ready()?;
+        if row >= self.rows() {
+            return Err(Refusal::NoSuchRow(row));
+        }
+        if !self.allows(start, buffer.len()) {
+            return Err(Refusal::BadSpan(start));
+        }
+        let verdict = rows::audit(&self.shelf, self.sizes, row);
+        if !verdict.is_sound() {
+            return Err(Refusal::Unsound(row, verdict));
+        }
+        rows::copy_span(&self.shelf, row, start, buffer);
+        Ok(())
+    }
+
+    // Checks from cards alone that parity fits.
+    pub fn cross(&self) -> Result<(), Refusal>
+        ensures { Promise S.Symbol.Field.algebra (state S.Shelf.contents S.Symbol.Field.meaning self.now) cross-call (answer-of result) (state S.Shelf.contents S.Symbol.Field.meaning self.now) }
+    {
+        self.ready()?;
+        let start = self.sizes.block_length;
+        if let Some((row, component)) = rows::first_hole(
+            &self.shelf,
+            self.rows(),
+            start,
+            self.sizes.card_length,
+        ) {
+            return Err(Refusal::Unreadable(row, start.saturating_add(component)));
+        }
+        if let Some((i, component)) = rows::first_misfit(
+            &self.shelf,
+            self.sizes,
+            start,
+            self.sizes.card_length,
+        ) {
+            let row = self.sizes.data_rows.saturating_add(i);
+            return Err(Refusal::Misfit(row, start.saturating_add(component)));
+        }
+        Ok(())
+    }
+
+    // Begins a round at row 0, on a sheet where nothing is read.
+    pub fn begin(&mut self) -> Result<(), Refusal>
+        ensures { Promise S.Symbol.Field.algebra (state S.Shelf.contents S.Symbol.Field.meaning self.old) begin-call (answer-of result) (state S.Shelf.contents S.Symbol.Field.meaning self.new) }
+    {
+        self.ready()?;
+        let rows = self.rows();
+        self.round.act(Action::Begin, rows)?;
+        self.sheet = Sheet::unread();
+        Ok(())
+    }
+
+    // Audits the row that the round walks at, enters the verdict, and goes on to the next row or to over.
+    pub fn step(&mut self) -> Result<Verdict, Refusal>
+        ensures { Promise S.Symbol.Field.algebra (state S.Shelf.contents S.Symbol.Field.meaning self.old) step-call (answer-by judged result) (state S.Shelf.contents S.Symbol.Field.meaning self.new) }
+    {
+        self.ready()?;
+        let rows = self.rows();
+        let row = self.round.act(Action::Step, rows)?;
+        let verdict = rows::audit(&self.shelf, self.sizes, row);
+        self.sheet.enter(row, verdict);
+        Ok(verdict)
+    }
+
+    // How many rows the round found sound, and how many it did not.
+    pub fn totals(&mut self) -> Result<(usize, usize), Refusal>
+        ensures { Promise S.Symbol.Field.algebra (state S.Shelf.contents S.Symbol.Field.meaning self.old) totals-call (answer-by counts-of result) (state S.Shelf.contents S.Symbol.Field.meaning self.new) }
+    {
+        self.ready()?;
+        let rows = self.rows();
+        let walked = self.round.act(Action::Totals, rows)?;
+        Ok(self.sheet.totals(walked))
+    }
+
+    // What the sheet says of a row.
+    pub fn record(&self, row: usize) -> Result<Entry, Refusal>
+        ensures { Promise S.Symbol.Field.algebra (state S.Shelf.contents S.Symbol.Field.meaning self.now) (record-call row) (answer-by entry-is result) (state S.Shelf.contents S.Symbol.Field.meaning self.now) }
+    {
+        self.ready()?;
+        if row >= self.rows() {
+            return Err(Refusal::NoSuchRow(row));
+        }
+        Ok(self.sheet.entry(row))
+    }
+
+    // The lowest row that the sheet has as not sound.
+    pub fn first(&self) -> Result<Option<usize>, Refusal>
+        ensures { Promise S.Symbol.Field.algebra (state S.Shelf.contents S.Symbol.Field.meaning self.now) first-call (answer-by lowest-is result) (state S.Shelf.contents S.Symbol.Field.meaning self.now) }
+    {
+        self.ready()?;
+        Ok(self.sheet.first_unsound(self.rows()))
     }
 }

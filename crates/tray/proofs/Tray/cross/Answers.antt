@@ -1,0 +1,44 @@
+use Rattle.std.proofs.Common.{◌≡◌, ℕ, ◌+◌, ◌<◌, sym, ◌∙◌, subst, subst₂, arith}
+use Rattle.rules.specs.Calls.{cross, refused}
+use Rattle.rules.specs.Promises.{Promise}
+use Rattle.rules.specs.States.{k, p, n, m, misfit}
+use Rattle.rules.specs.declared.Refusal.TheVariants.{Unreadable, Misfit}
+use Rattle.rules.proofs.Found.{lowest-pair-some}
+use Rattle.rules.proofs.Rows.{fitting}
+use Rattle.tray.specs.State.{state}
+use Rattle.tray.proofs.Answering.{stretch-holes, cross-hole, cross-misfit, cross-fitting}
+use Rattle.tray.proofs.Tray.cross.Goals as goal
+
+pub returns-in-Some : goal.returns-in-Some
+returns-in-Some g c =
+    let F = g.S.Symbol.Field.algebra in
+    let meaning = g.S.Symbol.Field.meaning in
+    let s = state g.S.Shelf.contents meaning c.args.self.now in
+    let f = fitting F s c.in_ok-ready.ensures.0 in
+    let all : c.rows.result ≡ k s + p s = c.rows.ensures (omega arith) in
+    let hit = stretch-holes meaning (g.S.Shelf.contents c.args.self.now.shelf) (k s + p s) c.rows.result (n s) (m s) _ all (c.first_hole.ensures (omega arith)) ∙ c.in-Some.is in
+    let low = lowest-pair-some (k s + p s) (m s) _ c.in-Some.row c.in-Some.component hit in
+    cross-hole F s c.in_ok-ready.ensures.0 c.in_ok-ready.ensures.1 c.in-Some.row c.in-Some.component c.saturating_add.result (omega (arith, c.saturating_add.ensures, low.1)) hit
+
+pub returns-in-Some-first_misfit : goal.returns-in-Some-first_misfit
+returns-in-Some-first_misfit g c =
+    let F = g.S.Symbol.Field.algebra in
+    let meaning = g.S.Symbol.Field.meaning in
+    let s = state g.S.Shelf.contents meaning c.args.self.now in
+    let f = fitting F s c.in_ok-ready.ensures.0 in
+    let all : c.rows.result ≡ k s + p s = c.rows.ensures (omega arith) in
+    let whole = stretch-holes meaning (g.S.Shelf.contents c.args.self.now.shelf) (k s + p s) c.rows.result (n s) (m s) _ all (c.first_hole.ensures (omega arith)) ∙ c.in_default.is in
+    let hit = sym (c.first_misfit.ensures (omega arith) c.in_ok-ready.ensures.0) ∙ c.in-Some-first_misfit.is in
+    let low = lowest-pair-some (p s) (m s) _ c.in-Some-first_misfit.i c.in-Some-first_misfit.component hit in
+    cross-misfit F s c.in_ok-ready.ensures.0 c.in_ok-ready.ensures.1 whole c.in-Some-first_misfit.i c.in-Some-first_misfit.component c.saturating_add-row.result c.saturating_add-in-Some-first_misfit.result
+    (omega (arith, c.saturating_add-row.ensures, low.0)) (omega (arith, c.saturating_add-in-Some-first_misfit.ensures, low.1)) hit
+
+pub returns : goal.returns
+returns g c =
+    let F = g.S.Symbol.Field.algebra in
+    let meaning = g.S.Symbol.Field.meaning in
+    let s = state g.S.Shelf.contents meaning c.args.self.now in
+    let f = fitting F s c.in_ok-ready.ensures.0 in
+    let all : c.rows.result ≡ k s + p s = c.rows.ensures (omega arith) in
+    let whole = stretch-holes meaning (g.S.Shelf.contents c.args.self.now.shelf) (k s + p s) c.rows.result (n s) (m s) _ all (c.first_hole.ensures (omega arith)) ∙ c.in_default.is in
+    cross-fitting F s c.in_ok-ready.ensures.0 c.in_ok-ready.ensures.1 whole (sym (c.first_misfit.ensures (omega arith) c.in_ok-ready.ensures.0) ∙ c.in_default-first_misfit.is)
