@@ -26,16 +26,16 @@ use crate::solver::{solution, store, stored};
 // Which rows are sound, and how many are not.
 #[derive(Drop)]
 pub struct Damage {
-    pub sound: [bool; 68],
+    sound: [bool; 68],
     pub count: usize,
 }
 
 // The lost data rows, at most four, and for each row its weights in them, by their numbers.
 #[derive(Drop)]
 pub struct Plan {
-    pub lost: [usize; 4],
-    pub count: usize,
-    pub weights: [[usize; 4]; 68],
+    lost: [usize; 4],
+    count: usize,
+    weights: [[usize; 4]; 68],
 }
 
 // The lowest four indices that are sound, or that are not, and how many there are.
@@ -52,6 +52,24 @@ fn is_sound(damage: &Damage, row: usize) -> bool
         Some(sound) => *sound,
         None => false,
     }
+}
+
+// Audits all rows: which are sound, and how many are not, however many.
+pub fn gather<S: Shelf>(shelf: &S, sizes: Sizes) -> Damage
+where
+    S::Symbol: Field,
+    ensures { let F = S.Symbol.Field.algebra in let s = seen S.Symbol.Field.meaning sizes (S.Shelf.contents shelf.now) in fits F s ≡ true → Gathered F s result }
+{
+    let mut sound = [false; 68];
+    let mut count = 0;
+    for row in 0..sizes.data_rows.saturating_add(sizes.parity_rows).min(68) {
+        let here = rows::audit(shelf, sizes, row).is_sound();
+        sound[row] = here;
+        if !here {
+            count += 1;
+        }
+    }
+    Damage { sound, count }
 }
 
 // Of `bound` rows from `start` on, those that are sound, or those that are not.
