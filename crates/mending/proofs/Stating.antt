@@ -1,5 +1,5 @@
 -- What planned weights make in a state: the data rows that mend works, and every parity row from them.
-use Rattle.std.proofs.Common.{◌≡◌, ℕ, zero, suc, ◌+◌, ◌-◌, ◌<◌, ◌≤◌, Bool, true, false, cond, not, ◌&&◌, ◌⊎◌, Some, None, Option, sym, refl, ap, ◌∙◌, ap₂, subst, inl, inr, arith}
+use Rattle.std.proofs.Common.{◌≡◌, ℕ, zero, suc, ◌+◌, ◌-◌, ◌<◌, ◌≤◌, Bool, true, false, cond, not, ◌&&◌, ltb, ◌⊎◌, Some, None, Option, sym, refl, ap, ◌∙◌, ap₂, subst, inl, inr, arith}
 use Rattle.std.proofs.lemmas.Bool.{and_parts, and_from, lt-ltb, ltb-true, cases_lt}
 use Rattle.algebra.specs.Algebra.{Field}
 use Rattle.algebra.specs.Sum.{sum_to}
@@ -7,12 +7,12 @@ use Rattle.algebra.proofs.Sums.{sum_below}
 use Rattle.shelves.specs.Contents.{symbol}
 use Rattle.rules.specs.Codes.{combination, differ, table-block}
 use Rattle.rules.specs.Search.{counted, lowest, lowest-from}
-use Rattle.rules.specs.States.{State, k, p, n, cell, symbol-at, fits, sound, unsound-count}
+use Rattle.rules.specs.States.{State, symbol-or, k, p, n, cell, symbol-at, fits, sound, unsound-count}
 use Rattle.rules.specs.Updates.{used, Worked, worked-misfit}
 use Rattle.rules.proofs.Counted.{counted-add, counted-not}
 use Rattle.rules.proofs.Found.{none-lowest}
 use Rattle.rules.proofs.Rows.{fitting, read_back, sound-means}
-use Rattle.rules.proofs.Tables.{combination-same, block-data, block-parity}
+use Rattle.rules.proofs.Tables.{same-differ, combination-same, block-data, block-parity}
 use Rattle.rules.proofs.Working.{bad, good, worked-unique}
 use Rattle.mending.specs.declared.Damage.{Damage}
 use Rattle.mending.specs.declared.Plan.{Plan}
@@ -122,3 +122,13 @@ module _ {X : Type 0} (F : Field X) (s : State X) (fit : fits F s ≡ true) (few
 
       pub misfit_none : (i : ℕ) → sound F s (k s + i) ≡ false → lowest (n s) (worked-misfit F s blocks i) ≡ None
       misfit_none i e = none-lowest (n s) (worked-misfit F s blocks i) (λ place l. ap (λ b. b && differ F (combination F (k s) (λ j. blocks j place) i) (symbol-at F s (k s + i) place)) e)
+
+      -- a used parity row fits
+      pub misfit_used : (i : ℕ) → i < p s → sound F s (k s + i) ≡ true → ltb (counted i (λ h. on (k s + h))) plan.count ≡ true → lowest (n s) (worked-misfit F s blocks i) ≡ None
+      misfit_used i h e less =
+          none-lowest (n s) (worked-misfit F s blocks i) (λ place l.
+          let fits-there = same-differ F _ _ (sym (ap (symbol-or F.zer) (w.solves i place h l is-used))) in
+          ap₂ (λ a b. a && b) e fits-there)
+        where
+          is-used : used F s i ≡ true
+          is-used = and_from _ _ e (lt-ltb _ _ (omega (arith, goods i (omega arith), bads, planned.count, ltb-true (counted i (λ h. on (k s + h))) plan.count less)))

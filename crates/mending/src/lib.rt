@@ -1,7 +1,7 @@
 // What mend works with: which rows are not sound, with which weights their symbols follow from rows that are, the first place that does not fit, and the puts.
 #![tactic(auto)]
 
-ghost use Rattle.std.specs.Prelude.{◌≡◌, ◌≢◌, ℕ, ◌+◌, ◌-◌, ◌<◌, ◌≤◌, true, false, not, length, slice_index, slice_index_or, List, []};
+ghost use Rattle.std.specs.Prelude.{◌≡◌, ◌≢◌, ℕ, ◌+◌, ◌-◌, ◌<◌, ◌≤◌, true, false, not, length, slice_index, slice_index_or, List, [], nat_lt};
 ghost use Rattle.algebra.specs.Theorems.{coefficient as coefficient-of, Square, Solves};
 ghost use Rattle.algebra.specs.Sum.{sum_to};
 ghost use Rattle.rules.specs.Codes.{differ};
@@ -291,7 +291,14 @@ where
     None
 }
 
-// The lowest place of the block where parity row i is sound and does not fit the data rows as worked.
+// Whether parity row i, if it is sound, is one of those from which the lost data rows are worked.
+fn is_used(damage: &Damage, plan: &Plan, data_rows: usize, i: usize) -> bool
+    ensures { data_rows + i ≤ 68 → result ≡ nat_lt (counted i (λ h. flag damage.now.sound (data_rows + h))) plan.now.count }
+{
+    picked(damage, data_rows, i, true).count < plan.count
+}
+
+// The lowest place of the block where parity row i is sound and does not fit the data rows as worked. A row that is used fits, since they are worked from it.
 fn row_misfit<S: Shelf>(
     shelf: &S,
     sizes: Sizes,
@@ -307,6 +314,9 @@ where
 {
     let row = sizes.data_rows.saturating_add(i);
     if !is_sound(damage, row) {
+        return None;
+    }
+    if is_used(damage, plan, sizes.data_rows, i) {
         return None;
     }
     let rows = sizes.data_rows.saturating_add(sizes.parity_rows);

@@ -7,7 +7,7 @@ use Rattle.rules.proofs.Rows.{fitting}
 use Rattle.mending.specs.Plans.{flag, weight-of}
 use Rattle.mending.specs.Stored.{stored}
 use Rattle.mending.specs.Puts.{weighted-sum}
-use Rattle.mending.proofs.Stating.{misfit_none, misfit_found, few-lost}
+use Rattle.mending.proofs.Stating.{misfit_none, misfit_used, misfit_found, few-lost}
 use Rattle.mending.proofs.row_misfit.Goals as goal
 
 pub returns-then-not-is_sound : goal.returns-then-not-is_sound
@@ -19,6 +19,16 @@ returns-then-not-is_sound g c fit few gathered planned h blocks w =
     let off : sound F s (c.args.sizes.data_rows + c.args.i) ≡ false =
     sym (gathered.rows (c.args.sizes.data_rows + c.args.i) (omega arith)) ∙ ap (flag c.args.damage.now.sound) (sym at) ∙ sym c.is_sound.ensures ∙ c.if-not-is_sound.true in
     sym (misfit_none F s fit few c.args.damage.now gathered c.args.plan.now planned blocks w c.args.i off)
+
+pub returns-then-is_used : goal.returns-then-is_used
+returns-then-is_used g c fit few gathered planned h blocks w =
+    let F = g.S.Symbol.Field.algebra in
+    let s = seen g.S.Symbol.Field.meaning c.args.sizes (g.S.Shelf.contents c.args.shelf.now) in
+    let f = fitting F s fit in
+    let at : c.saturating_add-row.result ≡ c.args.sizes.data_rows + c.args.i = omega (arith, c.saturating_add-row.ensures, f.k-high, f.p-high, h) in
+    let on : sound F s (c.args.sizes.data_rows + c.args.i) ≡ true =
+    sym (gathered.rows (c.args.sizes.data_rows + c.args.i) (omega arith)) ∙ ap (flag c.args.damage.now.sound) (sym at) ∙ sym c.is_sound.ensures ∙ c.if-not-is_sound.false in
+    sym (misfit_used F s fit few c.args.damage.now gathered c.args.plan.now planned blocks w c.args.i h on (sym (c.is_used.ensures (omega (arith, f.k-high, f.p-high))) ∙ c.if-is_used.true))
 
 pub returns : goal.returns
 returns g c fit few gathered planned h blocks w =
