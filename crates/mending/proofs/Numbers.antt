@@ -1,5 +1,5 @@
 -- Elements kept by their numbers.
-use Rattle.std.proofs.Common.{◌≡◌, ℕ, ◌<◌, ◌≤◌, ◌≢◌, Some, None, Option, List, length, cond, ltb, sym, refl, ap, ◌∙◌, arith, lt-ltb, true, false}
+use Rattle.std.proofs.Common.{◌≡◌, ℕ, ◌<◌, Some, None, Option, ltb, lt-ltb}
 use Rattle.algebra.specs.Algebra.{Field, numbered}
 use Rattle.algebra.proofs.Cases.{by_cases}
 use Rattle.mending.specs.Stored.{element-of}

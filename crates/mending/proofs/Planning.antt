@@ -1,5 +1,5 @@
 -- From the array's solution to the equations of the used parity rows.
-use Rattle.std.proofs.Common.{◌≡◌, ℕ, ◌+◌, ◌<◌, ◌≤◌, Bool, true, false, not, ◌≢◌, sym, refl, ap, ◌∙◌, ap₂, subst, List, get_or, arith}
+use Rattle.std.proofs.Common.{◌≡◌, ℕ, ◌+◌, ◌<◌, ◌≤◌, Bool, true, not, ◌≢◌, sym, refl, ap, ◌∙◌, ap₂, subst, List, get_or, arith}
 use mathlib.Core.Path.{fun_ext}
 use Rattle.std.proofs.lemmas.Bool.{and_parts, ltb-true}
 use Rattle.algebra.specs.Algebra.{Field, minus}
@@ -10,7 +10,6 @@ use Rattle.algebra.proofs.Matrix.{exactly-one-solution}
 use Rattle.algebra.proofs.Sums.{sum_below}
 use Rattle.rules.specs.Search.{counted}
 use Rattle.rules.proofs.Counted.{select, select-rank, counted-before, counted-not}
-use Rattle.mending.specs.declared.Plan.{Plan}
 use Rattle.mending.specs.Plans.{Picked, lost, used-by, share, weight-in, Planned}
 use Rattle.mending.proofs.Solving.{solve-same}
 
@@ -99,7 +98,7 @@ module _ {A : Type 0} (F : Field A) (k p : ℕ) (sound : ℕ → Bool) where
         → Solves F lost-count (λ a. get_or used-at a 0) (λ b. get_or lost-at b 0) (λ a. share F k sound (get_or used-at a 0) row) (weight-in F weights row))
         → Planned F k p sound (record { lost = lost-at; count = lost-count; weights = weights })
     planned-by lost-count used-count lc bs uc us solved =
-        let from-zero : (λ (i : ℕ). not (sound (0 + i))) ≡ (λ (i : ℕ). not (sound i)) = fun_ext λ i. let e : 0 + i ≡ i = omega arith in ap (λ j. not (sound j)) e in
+        let from-zero : ◌≡◌ {A = ℕ → Bool} (λ i. not (sound (0 + i))) (λ i. not (sound i)) = fun_ext λ i. let e : 0 + i ≡ i = omega arith in ap (λ j. not (sound j)) e in
         let counts : lost-count ≡ counted k (lost F k sound) = lc ∙ ap (counted k) from-zero in
         let bs' : (b : ℕ) → b < 4 → b < lost-count → Picked k (lost F k sound) b (get_or lost-at b 0) =
         λ b f h. subst (λ test. Picked k test b (get_or lost-at b 0)) from-zero (bs b f h) in

@@ -1,8 +1,7 @@
 -- Rows put whole, place after place and row after row.
-use Rattle.std.proofs.Common.{◌≡◌, ℕ, ◌+◌, ◌-◌, ◌^◌, ◌<◌, ◌≤◌, Bool, true, false, cond, not, ◌&&◌, eqb, ltb, leb, ◌≢◌, ◌⊎◌, sym, refl, ap, ◌∙◌, ap₂, inl, inr, arith, ltb-false, ltb-true, le-ltb, lt-ltb, eq-eqb, eqb-true, le-leb}
+use Rattle.std.proofs.Common.{◌≡◌, ℕ, ◌+◌, ◌-◌, ◌^◌, ◌<◌, ◌≤◌, Bool, true, false, cond, not, ◌&&◌, eqb, ltb, ◌≢◌, sym, refl, ap, ◌∙◌, ap₂, inl, arith, ltb-false, ltb-true, le-ltb, lt-ltb, eq-eqb, eqb-true, le-leb}
 use borrow.Author.Tests.{lt-leb, both_ways}
 use Rattle.algebra.specs.Algebra.{Field}
-use Rattle.algebra.specs.Sum.{sum_to}
 use Rattle.algebra.proofs.Cases.{by_cases, and_left, and_both}
 use Rattle.algebra.proofs.Ring.{zero-mul}
 use Rattle.algebra.proofs.Sums.{sum_below}
@@ -14,8 +13,8 @@ use Rattle.rules.specs.Updates.{carded, Worked, mended-cells}
 use Rattle.rules.specs.Views.{seen-cell, seen-contents, seen, same-hole, element-at}
 use Rattle.rules.specs.declared.Sizes.{Sizes}
 use Rattle.rules.proofs.Rows.{Fitting, fitting}
-use Rattle.rules.proofs.Tables.{component-same, table-place, table-card}
-use Rattle.rows.specs.Cards.{Holds, partly, CardPut}
+use Rattle.rules.proofs.Tables.{component-same, table-place}
+use Rattle.rows.specs.Cards.{Holds, partly}
 use Rattle.mending.specs.declared.Damage.{Damage}
 use Rattle.mending.specs.declared.Plan.{Plan}
 use Rattle.mending.specs.Plans.{flag, weight-of, Gathered, Planned}

@@ -1,8 +1,8 @@
 -- The recursion for Cauchy systems, in one array.
-use Rattle.std.proofs.Common.{◌≡◌, ℕ, zero, suc, ◌+◌, ◌-◌, ◌<◌, ◌≤◌, sym, refl, ap, ◌∙◌, ap₂, arith}
+use Rattle.std.proofs.Common.{◌≡◌, ℕ, zero, suc, ◌+◌, ◌-◌, ◌<◌, ◌≤◌, sym, ap, ◌∙◌, ap₂, arith}
 use mathlib.Core.Path.{fun_ext}
 use Rattle.algebra.specs.Algebra.{Field, minus}
-use Rattle.algebra.specs.Cauchy.{after, before, row, grown, reduced, solve}
+use Rattle.algebra.specs.Cauchy.{after, row, grown, reduced, solve}
 use Rattle.algebra.proofs.Sums.{sum_below}
 use Rattle.mending.specs.Stored.{from, reduced-at, grown-at}
 

@@ -1,12 +1,12 @@
 -- What rows with planned weights make: the lost data rows, and parity rows from all data rows.
-use Rattle.std.proofs.Common.{◌≡◌, ℕ, zero, suc, ◌+◌, ◌-◌, ◌<◌, ◌≤◌, Bool, true, false, cond, not, ◌&&◌, eqb, ltb, ◌≢◌, ◌⊎◌, sym, refl, ap, ◌∙◌, ap₂, subst, inl, inr, List, get_or, arith}
-use Rattle.std.proofs.lemmas.Bool.{and_parts, and_from, not-true, not-false, not_from_true, not_from_false, both_ways, lt-ltb, le-ltb, eq-eqb, ne_eqb, cases_lt, cases_eq}
-use Rattle.algebra.specs.Algebra.{Field, minus}
+use Rattle.std.proofs.Common.{◌≡◌, ℕ, zero, suc, ◌+◌, ◌-◌, ◌<◌, ◌≤◌, Bool, true, false, cond, ◌&&◌, eqb, ltb, ◌≢◌, ◌⊎◌, sym, refl, ap, ◌∙◌, ap₂, inl, inr, get_or, arith}
+use Rattle.std.proofs.lemmas.Bool.{and_from, not-true, not-false, not_from_false, both_ways, lt-ltb, le-ltb, eq-eqb, ne_eqb, cases_lt}
+use Rattle.algebra.specs.Algebra.{Field}
 use Rattle.algebra.specs.Sum.{sum_to}
 use Rattle.algebra.specs.Theorems.{coefficient, Square, Solves, solution}
 use Rattle.algebra.proofs.Cases.{by_cases}
 use Rattle.algebra.proofs.Matrix.{exactly-one-solution}
-use Rattle.algebra.proofs.Ring.{add-zero, zero-add, add-mul, mul-add, mul-zero, zero-mul, one-mul, mul_comm, mul_assoc, add-neg, add_comm}
+use Rattle.algebra.proofs.Ring.{add-zero, zero-add, add-mul, mul-add, mul-zero, zero-mul, one-mul, mul_comm, mul_assoc, add-neg}
 use Rattle.algebra.proofs.Sums.{sum_below, sum-zero, sum-add, sum-mul, sum-exchange, sum_one}
 use Rattle.rules.specs.Codes.{combination}
 use Rattle.rules.specs.Search.{counted}

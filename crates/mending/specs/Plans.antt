@@ -1,5 +1,5 @@
 -- Which rows are used, and with which weights the symbols of rows that are not sound follow from rows that are.
-use Rattle.std.specs.Prelude.{◌≡◌, ℕ, ◌+◌, ◌-◌, ◌<◌, ◌≤◌, Bool, true, false, cond, not, ◌&&◌, ◌==◌, nat_lt, List, [], slice_index, slice_index_or}
+use Rattle.std.specs.Prelude.{◌≡◌, ℕ, ◌+◌, ◌-◌, ◌<◌, Bool, true, false, cond, not, ◌&&◌, ◌==◌, nat_lt, List, [], slice_index, slice_index_or}
 use Rattle.algebra.specs.Algebra.{Field, minus}
 use Rattle.algebra.specs.Sum.{sum_to}
 use Rattle.algebra.specs.Theorems.{coefficient}

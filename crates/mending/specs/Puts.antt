@@ -1,5 +1,5 @@
 -- Rows put whole: a block from weights, and its fresh card.
-use Rattle.std.specs.Prelude.{◌≡◌, ℕ, ◌+◌, ◌-◌, ◌<◌, true, cond, ◌&&◌, ◌==◌, nat_lt, List}
+use Rattle.std.specs.Prelude.{ℕ, ◌+◌, ◌-◌, cond, ◌&&◌, ◌==◌, nat_lt}
 use Rattle.algebra.specs.Algebra.{Field}
 use Rattle.algebra.specs.Sum.{sum_to}
 use Rattle.shelves.specs.Contents.{Contents, Cell, symbol}
@@ -7,8 +7,6 @@ use Rattle.rules.specs.Codes.{component}
 use Rattle.rules.specs.Updates.{mended-cells}
 use Rattle.rules.specs.Views.{seen-cell, seen, element-at}
 use Rattle.rules.specs.declared.Sizes.{Sizes}
-use Rattle.mending.specs.Stored.{stored}
-use Rattle.rows.specs.Cards.{Holds}
 
 module _ {X A : Type 0} (F : Field A) (meaning : X → A) where
   -- what rows with these weights make at a place

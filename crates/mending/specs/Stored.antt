@@ -1,7 +1,6 @@
 -- Elements kept by their numbers.
-use Rattle.std.specs.Prelude.{◌≡◌, ℕ, ◌+◌, ◌<◌, ◌≤◌, cond, nat_lt, List, slice_index}
+use Rattle.std.specs.Prelude.{ℕ, ◌+◌, cond, nat_lt, List, slice_index}
 use Rattle.algebra.specs.Algebra.{Field, minus}
-use Rattle.algebra.specs.Cauchy.{solve}
 
 -- a sequence without its first elements, those below an index
 abbrev pub from : {A : Type 0} → ℕ → (ℕ → A) → ℕ → A

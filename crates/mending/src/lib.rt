@@ -17,11 +17,10 @@ ghost use Rattle.mending.specs.Puts.{weighted-sum, block-cells, row-cells};
 
 mod solver;
 
+use crate::solver::{solution, store, stored};
 use algebra::Field;
 use rules::Sizes;
 use shelves::Shelf;
-
-use crate::solver::{solution, store, stored};
 
 // Which rows are sound, and how many are not.
 #[derive(Drop)]

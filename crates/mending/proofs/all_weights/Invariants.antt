@@ -1,4 +1,4 @@
-use Rattle.std.proofs.Common.{◌≡◌, ◌+◌, ◌<◌, ◌≤◌, ℕ, List, length, get_or}
+use Rattle.std.proofs.Common.{◌≡◌, ◌<◌, ◌≤◌, ℕ, length, get_or}
 use Rattle.algebra.specs.Theorems.{Square, Solves}
 use Rattle.mending.specs.Plans.{flag, share, weight-in}
 use Rattle.mending.proofs.all_weights.Given as goal

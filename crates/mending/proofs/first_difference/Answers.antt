@@ -1,4 +1,4 @@
-use Rattle.std.proofs.Common.{◌≡◌, ℕ, ◌<◌, Bool, true, false, not, sym, ap, ◌∙◌, ap₂, eqb, arith}
+use Rattle.std.proofs.Common.{◌≡◌, ℕ, Bool, true, not, sym, ap, ◌∙◌, ap₂, eqb, arith}
 use Rattle.rules.specs.Codes.{differ}
 use Rattle.rules.specs.Views.{element-at}
 use Rattle.rules.proofs.Found.{none-lowest}

@@ -1,4 +1,4 @@
-use Rattle.std.proofs.Common.{◌≡◌, ℕ, ◌<◌, Bool, true, false, sym, ◌∙◌, arith, below_more}
+use Rattle.std.proofs.Common.{◌≡◌, ℕ, ◌<◌, Bool, false, sym, ◌∙◌, arith, below_more}
 use Rattle.rules.specs.Updates.{worked-misfit}
 use Rattle.rules.specs.Views.{seen}
 use Rattle.rules.proofs.Found.{lowest-some, lowest-none}

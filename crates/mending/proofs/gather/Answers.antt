@@ -1,9 +1,8 @@
-use Rattle.std.proofs.Common.{◌≡◌, ℕ, ◌+◌, ◌<◌, ◌≤◌, ◌≢◌, true, false, cond, not, length, sym, ap, ◌∙◌, arith, length-set, get_or-set_other, get_or-set_same, below_more, add-one, add-zero}
+use Rattle.std.proofs.Common.{ℕ, ◌+◌, ◌<◌, ◌≤◌, ◌≢◌, false, cond, not, length, sym, ap, ◌∙◌, arith, length-set, get_or-set_other, get_or-set_same, below_more, add-one, add-zero}
 use Rattle.rules.specs.Calls.{is-sound}
 use Rattle.rules.specs.Search.{counted}
 use Rattle.rules.specs.States.{sound}
 use Rattle.rules.specs.Views.{seen}
-use Rattle.mending.specs.Plans.{flag}
 use Rattle.mending.proofs.gather.Goals as goal
 use Rattle.mending.proofs.gather.Goals.{then-not-here, else-not-here}
 

@@ -1,5 +1,4 @@
-use Rattle.std.proofs.Common.{◌≡◌, ℕ, ◌+◌, ◌<◌, true, false, sym, ap, ◌∙◌, subst, arith}
-use Rattle.rules.specs.States.{sound}
+use Rattle.std.proofs.Common.{◌≡◌, ℕ, ◌+◌, ◌<◌, sym, ◌∙◌, subst, arith}
 use Rattle.rules.specs.Views.{seen}
 use Rattle.rules.proofs.Rows.{fitting}
 use Rattle.rows.specs.Cards.{Holds}

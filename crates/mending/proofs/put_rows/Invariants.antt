@@ -1,4 +1,4 @@
-use Rattle.std.proofs.Common.{◌≡◌, ◌<◌, ◌≤◌, ℕ, true}
+use Rattle.std.proofs.Common.{◌≡◌, ◌≤◌, ℕ, true}
 use Rattle.algebra.specs.Below.{Below}
 use Rattle.rules.specs.States.{fits, unsound-count}
 use Rattle.rules.specs.Updates.{Worked}

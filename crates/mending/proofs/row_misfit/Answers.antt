@@ -1,4 +1,4 @@
-use Rattle.std.proofs.Common.{◌≡◌, ℕ, ◌+◌, ◌<◌, true, false, sym, ap, ◌∙◌, ap₂, inr, arith}
+use Rattle.std.proofs.Common.{◌≡◌, ℕ, ◌+◌, true, false, sym, ap, ◌∙◌, ap₂, arith}
 use Rattle.rules.specs.Codes.{differ}
 use Rattle.rules.specs.Search.{lowest}
 use Rattle.rules.specs.States.{sound}

@@ -1,4 +1,4 @@
-use Rattle.std.proofs.Common.{◌≡◌, ℕ, ◌+◌, ◌<◌, ◌≤◌, get_or, ap, ◌∙◌, arith}
+use Rattle.std.proofs.Common.{ℕ, ◌+◌, get_or, ap, ◌∙◌, arith}
 use Rattle.mending.specs.Stored.{stored, element-of}
 use Rattle.mending.specs.Plans.{flag, share}
 use Rattle.mending.proofs.Numbers.{element-small}

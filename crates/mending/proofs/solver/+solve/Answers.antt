@@ -1,4 +1,4 @@
-use Rattle.std.proofs.Common.{◌≡◌, ℕ, ◌+◌, ◌-◌, ◌<◌, ◌≤◌, ap, ◌∙◌, ap₂, arith}
+use Rattle.std.proofs.Common.{◌+◌, ◌-◌, ◌≤◌, ap, ◌∙◌, ap₂, arith}
 use Rattle.algebra.specs.Algebra.{minus}
 use Rattle.algebra.specs.Cauchy.{row}
 use Rattle.mending.specs.Stored.{from, stored}
@@ -14,6 +14,6 @@ returns-clause-here g t c four =
     (stored F c.store.new.numbers)
     (c.store.ensures.here (omega arith) ∙ c.product-value.ensures
     ∙ ap₂ F.mul (c.difference.ensures ∙ ap₂ (minus F) c.stored-row.ensures c.stored-column.ensures)
-    (c.difference-2.ensures ∙ ap₂ (minus F) c.stored-left.ensures (c.row_sum-sum.ensures next 
+    (c.difference-2.ensures ∙ ap₂ (minus F) c.stored-left.ensures (c.row_sum-sum.ensures next
     ∙ ap (λ x. row F (c.args.size - (c.args.first + 1)) (from (c.args.first + 1) (stored F c.args.columns.now)) (from (c.args.first + 1) (stored F c.grown-unknowns.result)) x) c.stored-row.ensures)))
     (λ j h. c.store.ensures.others j (omega arith))

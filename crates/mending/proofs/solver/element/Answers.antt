@@ -1,5 +1,5 @@
 use Rattle.mending.proofs.Numbers.{numbered-some, numbered-none}
-use Rattle.std.proofs.Common.{ap, sym, ◌∙◌}
+use Rattle.std.proofs.Common.{◌∙◌}
 use Rattle.mending.proofs.solver.element.Goals as goal
 
 pub returns-in-Some : goal.returns-in-Some

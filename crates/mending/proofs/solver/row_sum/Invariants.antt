@@ -1,4 +1,4 @@
-use Rattle.std.proofs.Common.{◌≡◌, ◌-◌, ◌≤◌}
+use Rattle.std.proofs.Common.{◌≡◌, ◌-◌}
 use Rattle.algebra.specs.Cauchy.{row}
 use Rattle.mending.specs.Stored.{from, stored}
 use Rattle.mending.proofs.solver.row_sum.Given as goal

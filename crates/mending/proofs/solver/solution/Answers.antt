@@ -1,6 +1,5 @@
-use Rattle.std.proofs.Common.{◌≡◌, ℕ, ◌+◌, ◌-◌, ◌<◌, ap, ◌∙◌, arith}
+use Rattle.std.proofs.Common.{ap, ◌∙◌, arith}
 use Rattle.algebra.specs.Algebra.{minus}
-use Rattle.algebra.specs.Cauchy.{solve}
 use Rattle.mending.specs.Stored.{stored}
 use Rattle.mending.proofs.Solving.{solve-from}
 use Rattle.mending.proofs.solver.solution.Goals as goal
