@@ -1,6 +1,6 @@
-pub mod Numbers
-pub mod Solving
-pub mod Planning
-pub mod Weighing
+mod Numbers
+mod Solving
+mod Planning
+mod Weighing
 pub mod Stating
-pub mod Putting
+mod Putting

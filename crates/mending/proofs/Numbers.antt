@@ -1,7 +1,9 @@
 -- Elements kept by their numbers.
-use Rattle.std.proofs.Common.{◌≡◌, ℕ, ◌<◌, Some, None, Option, ltb, lt-ltb}
+use Rattle.std.proofs.Common.{None, Option, Some, add-one, ap, eqb, eqb-true, lt-ltb, ltb, sym, true, ℕ, ◌+◌, ◌<◌, ◌∙◌, ◌≡◌}
 use Rattle.algebra.specs.Algebra.{Field, numbered}
 use Rattle.algebra.proofs.Cases.{by_cases}
+use Rattle.algebra.proofs.Ring.{zero-mul}
+use Rattle.algebra.specs.Sum.{sum_to}
 use Rattle.mending.specs.Stored.{element-of}
 
 module _ {A : Type 0} (F : Field A) where
@@ -24,3 +26,13 @@ module _ {A : Type 0} (F : Field A) where
   pub numbered-none : (v : ℕ) → None ≡ numbered F v → F.zer ≡ element-of F v
   unfolding element-of
   numbered-none v e = by_cases (ltb v F.size) (λ h. let k : ◌≡◌ {A = Option A} None (Some (F.element v)) = rw h at e in absurd cc) (λ h. rw h)
+
+  pub same-number : (x y : A) → eqb (F.number x) (F.number y) ≡ true → x ≡ y
+  same-number x y e = sym (F.element-number x) ∙ ap F.element (eqb-true _ _ e) ∙ F.element-number y
+
+  -- one term more, which may be nothing
+  pub sum-next : (n : ℕ) (w x : ℕ → A) → F.add (sum_to F n (λ i. F.mul (w i) (x i))) (F.mul (w n) (x n)) ≡ sum_to F (n + 1) (λ i. F.mul (w i) (x i))
+  sum-next n w x = rw (add-one n)
+
+  pub sum-passed : (n : ℕ) (w x : ℕ → A) → w n ≡ F.zer → sum_to F n (λ i. F.mul (w i) (x i)) ≡ sum_to F (n + 1) (λ i. F.mul (w i) (x i))
+  sum-passed n w x e = sym (F.add-zero _) ∙ ap (F.add _) (sym (ap (λ v. F.mul v (x n)) e ∙ zero-mul F _)) ∙ sum-next n w x

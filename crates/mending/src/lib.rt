@@ -60,15 +60,18 @@ where
     ensures { let F = S.Symbol.Field.algebra in let s = seen S.Symbol.Field.meaning sizes (S.Shelf.contents shelf.now) in fits F s ≡ true → Gathered F s result }
 {
     let mut sound = [false; 68];
-    let mut count = 0;
+    let mut unsound = 0;
     for row in 0..sizes.data_rows.saturating_add(sizes.parity_rows).min(68) {
         let here = rows::audit(shelf, sizes, row).is_sound();
         sound[row] = here;
         if !here {
-            count += 1;
+            unsound += 1;
         }
     }
-    Damage { sound, count }
+    Damage {
+        sound,
+        count: unsound,
+    }
 }
 
 // Of `bound` rows from `start` on, those that are sound, or those that are not.
@@ -253,7 +256,7 @@ fn row_weights<F: Field>(sizes: Sizes, damage: &Damage, plan: &Plan, row: usize)
     }
 }
 
-// What rows with these weights make at a place.
+// What rows with these weights make at a place. A row without weight is not read: it may be one that cannot be.
 fn weighted<S: Shelf>(shelf: &S, weights: &[usize; 68], rows: usize, place: usize) -> S::Symbol
 where
     S::Symbol: Field,
@@ -262,7 +265,9 @@ where
     let mut sum: S::Symbol = <S::Symbol>::zero();
     for row in 0..rows {
         let weight: S::Symbol = stored(weights, row);
-        sum = sum.sum(weight.product(rows::symbol_at(shelf, row, place)));
+        if !weight.equals(<S::Symbol>::zero()) {
+            sum = sum.sum(weight.product(rows::symbol_at(shelf, row, place)));
+        }
     }
     sum
 }

@@ -15,7 +15,7 @@ loop-row-preserved g c =
     let here = c.is_sound-here.result in
     let inside : row < length flags = omega (arith, c.loop-row.invariant.length-kept) in record {
       length-kept = length-set flags row here ∙ c.loop-row.invariant.length-kept;
-      within = elim c.if-not-here.branch as (λ b. c.if-not-here.count ≤ c.loop-row.row + 1) [ then-not-here w ↦ omega (arith, w.count-is, c.loop-row.invariant.within) | else-not-here w ↦ omega (arith, w.count-is, c.loop-row.invariant.within) ];
+      within = elim c.if-not-here.branch as (λ b. c.if-not-here.unsound ≤ c.loop-row.row + 1) [ then-not-here w ↦ omega (arith, w.unsound-is, c.loop-row.invariant.within) | else-not-here w ↦ omega (arith, w.unsound-is, c.loop-row.invariant.within) ];
       rows = λ fit.
           below_more _ row
           (λ r h. let ne : r ≢ row = omega arith in get_or-set_other flags row r here false ne ∙ c.loop-row.invariant.rows fit r h)
@@ -24,11 +24,11 @@ loop-row-preserved g c =
           let says = c.is_sound-here.ensures ∙ ap is-sound (c.audit.ensures fit) in
           elim c.if-not-here.branch [
             | then-not-here w ↦
-                w.count-is ∙ ap (λ (v : ℕ). v + 1) (c.loop-row.invariant.counts fit)
+                w.unsound-is ∙ ap (λ (v : ℕ). v + 1) (c.loop-row.invariant.counts fit)
                 ∙ ap (λ b. counted row (λ r. not (sound F s r)) + cond (not b) 1 0) (sym (sym says ∙ w.if-not-here.true))
                 ∙ ap (λ v. counted v (λ r. not (sound F s r))) (sym (add-one row))
             | else-not-here w ↦
-                w.count-is ∙ c.loop-row.invariant.counts fit ∙ sym (add-zero (counted row (λ r. not (sound F s r))))
+                w.unsound-is ∙ c.loop-row.invariant.counts fit ∙ sym (add-zero (counted row (λ r. not (sound F s r))))
                 ∙ ap (λ b. counted row (λ r. not (sound F s r)) + cond (not b) 1 0) (sym (sym says ∙ w.if-not-here.false))
                 ∙ ap (λ v. counted v (λ r. not (sound F s r))) (sym (add-one row))
           ];

@@ -10,7 +10,7 @@ invariant-loop-row g l =
     let F = g.S.Symbol.Field.algebra in
     let s = seen g.S.Symbol.Field.meaning l.sizes (g.S.Shelf.contents l.shelf) in record {
       length-kept : length l.sound ≡ 68;
-      within : l.count ≤ l.row;
+      within : l.unsound ≤ l.row;
       rows : fits F s ≡ true → (row : ℕ) → row < l.row → flag l.sound row ≡ sound F s row;
-      counts : fits F s ≡ true → l.count ≡ counted l.row (λ row. not (sound F s row));
+      counts : fits F s ≡ true → l.unsound ≡ counted l.row (λ row. not (sound F s row));
     }
