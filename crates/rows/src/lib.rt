@@ -229,7 +229,7 @@ where
 }
 
 // Puts the card of one row, worked afresh.
-fn put_card<S: Shelf>(shelf: &mut S, sizes: Sizes, row: usize)
+pub fn put_card<S: Shelf>(shelf: &mut S, sizes: Sizes, row: usize)
 where
     S::Symbol: Field,
     ensures { CardPut S.Symbol.Field.algebra S.Symbol.Field.meaning sizes row (S.Shelf.contents shelf.old) (S.Shelf.contents shelf.new) }

@@ -1,0 +1,12 @@
+use Rattle.std.proofs.Common.{◌≤◌, ◌+◌, arith}
+use Rattle.mending.specs.Plans.{flag}
+use Rattle.mending.proofs.Planning.{planned-by}
+use Rattle.mending.proofs.make_plan.Goals as goal
+
+pub returns : goal.returns
+returns g c few four room enough =
+    let bound : c.args.sizes.data_rows + c.args.sizes.parity_rows ≤ 68 = omega arith in
+    planned-by g.F.Field.algebra c.args.sizes.data_rows c.args.sizes.parity_rows (flag c.args.damage.now.sound) few four room enough
+    c.picked-lost.result.at c.picked-used.result.at c.all_weights-weights.result c.picked-lost.result.count c.picked-used.result.count
+    (c.picked-lost.ensures.count (omega arith)) (c.picked-lost.ensures.at (omega arith)) (c.picked-used.ensures.count bound) (c.picked-used.ensures.at bound)
+    (c.all_weights-weights.ensures few)
