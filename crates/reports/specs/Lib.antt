@@ -1,2 +1,3 @@
+pub mod Cards
 pub mod Report
 pub mod Text

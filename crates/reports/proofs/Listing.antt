@@ -1,0 +1,29 @@
+-- Lists by their entries.
+use Rattle.std.proofs.Common.{◌≡◌, ℕ, zero, suc, ◌<◌, List, ◌∷◌, length, get_or, cond, ltb, replicate, sym, refl, ap, ◌∙◌, arith, le-ltb}
+use Rattle.std.proofs.lemmas.List.{same_lists, get_or_default}
+use Rattle.reports.specs.Cards.{listed}
+
+pub length-listed : {X : Type 0} (count : ℕ) (x : ℕ → X) → length (listed count x) ≡ count
+length-listed zero x = refl
+length-listed (suc count) x = ap suc (length-listed count (λ i. x (suc i)))
+
+pub get-listed : {X : Type 0} (count : ℕ) (x : ℕ → X) (i : ℕ) (d : X) → i < count → get_or (listed count x) i d ≡ x i
+get-listed zero x i d h = absurd (omega arith)
+get-listed (suc count) x zero d h = refl
+get-listed (suc count) x (suc i) d h = get-listed count (λ j. x (suc j)) i d (omega arith)
+
+-- a list with these entries
+pub is-listed : {X : Type 0} (count : ℕ) (x : ℕ → X) (xs : List X) (d : X) → length xs ≡ count → ((i : ℕ) → i < count → get_or xs i d ≡ x i) → xs ≡ listed count x
+is-listed count x xs d long at =
+    same_lists xs (listed count x) (long ∙ sym (length-listed count x)) (λ i e h.
+    let less : i < count = omega (arith, long) in
+    get_or_default xs i e d h ∙ at i less ∙ sym (get-listed count x i e less))
+
+get-same : {X : Type 0} (count : ℕ) (x : X) (i : ℕ) → get_or (replicate count x) i x ≡ x
+get-same zero x i = refl
+get-same (suc count) x zero = refl
+get-same (suc count) x (suc i) = get-same count x i
+
+-- before the first entry is set
+pub none-set : {X : Type 0} (count : ℕ) (x : X) (i : ℕ) (v : X) → get_or (replicate count x) i x ≡ cond (ltb i 0) v x
+none-set count x i v = rw (le-ltb i 0 (omega arith)) (get-same count x i)
