@@ -1,7 +1,8 @@
 -- Lists by their entries.
-use Rattle.std.proofs.Common.{◌≡◌, ℕ, zero, suc, ◌<◌, List, ◌∷◌, length, get_or, cond, ltb, replicate, sym, refl, ap, ◌∙◌, arith, le-ltb}
+use Rattle.std.proofs.Common.{◌≡◌, ℕ, zero, suc, ◌+◌, ◌<◌, List, [], ◌∷◌, ◌++◌, append_assoc, add-one, length, get_or, cond, ltb, replicate, sym, refl, ap, ◌∙◌, arith, le-ltb}
 use Rattle.std.proofs.lemmas.List.{same_lists, get_or_default}
 use Rattle.reports.specs.Cards.{listed}
+use Rattle.reports.specs.Text.{lines}
 
 pub length-listed : {X : Type 0} (count : ℕ) (x : ℕ → X) → length (listed count x) ≡ count
 length-listed zero x = refl
@@ -27,3 +28,8 @@ get-same (suc count) x (suc i) = get-same count x i
 -- before the first entry is set
 pub none-set : {X : Type 0} (count : ℕ) (x : X) (i : ℕ) (v : X) → get_or (replicate count x) i x ≡ cond (ltb i 0) v x
 none-set count x i v = rw (le-ltb i 0 (omega arith)) (get-same count x i)
+
+-- one line more
+pub lines_more : (count : ℕ) (text : ℕ → List ℕ) (line : List ℕ) → line ≡ text count → (lines count text ++ 10 ∷ []) ++ line ≡ lines (count + 1) text
+lines_more count text line is =
+    append_assoc (lines count text) (10 ∷ []) line ∙ ap (λ (v : List ℕ). lines count text ++ (10 ∷ v)) is ∙ ap (λ v. lines v text) (sym (add-one count))

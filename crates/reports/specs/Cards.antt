@@ -1,5 +1,5 @@
 -- What intake makes of a new tray: the cards that it leaves, by their numbers, or why it was refused.
-use Rattle.std.specs.Prelude.{◌≡◌, ℕ, zero, suc, ◌+◌, cond, ◌&&◌, List, [], ◌∷◌, nat_lt}
+use Rattle.std.specs.Prelude.{◌≡◌, ℕ, zero, suc, ◌+◌, cond, ◌&&◌, List, [], ◌∷◌, min, take, nat_lt, slice_index_or}
 use Rattle.algebra.specs.Algebra.{Field}
 use Rattle.rules.specs.Calls.{Answer, intake, done, refused}
 use Rattle.rules.specs.Promises.{Promise}
@@ -22,6 +22,10 @@ module _ {A : Type 0} (F : Field A) (s : State A) where
   -- A table has room for 68 cards of 8 components, which no tray that fits exceeds.
   abbrev pub cards-of : Cards
   cards-of = record { rows = k s + p s; components = m s; cards = listed 68 (λ row. record { numbers = listed 8 (component-number row) }) }
+
+-- the numbers of a row's components in such a table, and none beyond it
+abbrev pub numbers_of : Cards → ℕ → List ℕ
+numbers_of t row = take (min t.components 8) (slice_index_or t.cards row (record { numbers = [] })).numbers
 
 abbrev pub answer-told : {A : Type 0} → Outcome → Answer A
 answer-told (Taken cards) = done

@@ -1,7 +1,7 @@
 // Intake of a new tray over any shelf, and the cards that it leaves, by their numbers.
 
 ghost use Rattle.std.specs.Prelude.{◌≡◌, ◌+◌, ◌<◌, ◌≤◌};
-ghost use Rattle.reports.specs.Cards.{cards-of, listed, component-number, Outcome-of};
+ghost use Rattle.reports.specs.Cards.{cards-of, numbers_of, listed, component-number, Outcome-of};
 ghost use Rattle.rules.specs.Views.{seen};
 
 use algebra::Field;
@@ -22,6 +22,18 @@ pub struct Cards {
     pub rows: usize,
     pub components: usize,
     pub cards: [Card; 68],
+}
+
+impl Cards {
+    // The numbers of a row's components; none beyond the table.
+    pub fn numbers_of(&self, row: usize) -> &[usize]
+        ensures { result.now ≡ numbers_of self.now row }
+    {
+        match self.cards.get(row) {
+            Some(card) => &card.numbers[..self.components.min(8)],
+            None => &[],
+        }
+    }
 }
 
 // What intake answered.

@@ -5,6 +5,7 @@ ghost use Rattle.std.specs.Prelude.{◌≡◌, Some};
 ghost use Rattle.reports.specs.Report.{input-refusal-number, sizes-of, ImageOutcome, Reported, OnlyReport};
 
 mod cards;
+mod text;
 
 pub use cards::{Card, Cards, Outcome};
 
@@ -78,3 +79,6 @@ pub fn answer(bytes: &mut [u8]) -> Report
         Err(refusal) => Report::NoImage(InputRefusal::Image(refusal)),
     }
 }
+
+#[cfg(test)]
+mod tests;

@@ -7,3 +7,4 @@ pub mod Updates
 pub mod Promises
 pub mod Twins
 pub mod Exact
+pub mod Text

@@ -1,9 +1,12 @@
 // The types that a tray's answers are made of. What they mean, and what every call promises, stands in specs/.
 #![tactic(auto)]
 
-ghost use Rattle.std.specs.Prelude.{◌≡◌};
-ghost use Rattle.rules.specs.Calls.{own-number, layer as layer-of, is-sound};
+ghost use Rattle.std.specs.Prelude.{◌≡◌, Some};
+ghost use Rattle.rules.specs.Calls.{own-number, returned, layer as layer-of, is-sound};
 ghost use Rattle.rules.specs.States.{within-limits};
+ghost use Rattle.rules.specs.Text.{numbers-text};
+
+use std::fmt;
 
 // The four sizes of a tray.
 #[derive(Clone, Copy, PartialEq, Eq, Debug)]
@@ -134,6 +137,29 @@ impl Refusal {
             Refusal::Unsound(_, Verdict::Card(_)) => Layer::Row,
             Refusal::Misfit(_, _) => Layer::Tray,
             _ => Layer::Call,
+        }
+    }
+}
+
+// The numbers that a refusal returns: its own, and what it carries.
+impl fmt::Display for Refusal {
+    ghost output = { λ r. Some (numbers-text (returned r)) };
+
+    fn fmt<W: fmt::Write>(&self, f: &mut fmt::Formatter<W>) -> fmt::Result {
+        let number = self.number();
+        match *self {
+            Refusal::DoesNotFit
+            | Refusal::NotTakenIn
+            | Refusal::TakenInAlready
+            | Refusal::WrongPhase => write!(f, "{number}"),
+            Refusal::NoSuchRow(carried)
+            | Refusal::BadSpan(carried)
+            | Refusal::Unsound(carried, Verdict::Sound)
+            | Refusal::TooManyUnsound(carried)
+            | Refusal::StillWalking(carried) => write!(f, "{number} {carried}"),
+            Refusal::Unsound(row, Verdict::Hole(at) | Verdict::Card(at))
+            | Refusal::Unreadable(row, at)
+            | Refusal::Misfit(row, at) => write!(f, "{number} {row} {at}"),
         }
     }
 }
