@@ -1,12 +1,12 @@
 -- An input has only one report.
-use Rattle.std.proofs.Common.{◌≡◌, ℕ, List, Ok, Err, Result, sym, refl, ap, ◌∙◌, arith}
+use Rattle.std.proofs.Common.{◌≡◌, ℕ, List, Ok, Err, Result, sym, ap, ◌∙◌, arith}
 use Rattle.algebra.specs.Algebra.{Field}
 use Rattle.byte_field.specs.Meaning.{byte-algebra}
 use Rattle.counter_field.specs.Meaning.{counter-algebra}
 use Rattle.images.specs.declared.FieldKind.{FieldKind}
 use Rattle.images.specs.declared.FieldKind.TheVariants.{Byte, Counter}
 use Rattle.images.specs.declared.Head.{Head}
-use Rattle.rules.specs.Calls.{Answer, intake, refused}
+use Rattle.rules.specs.Calls.{Answer, intake}
 use Rattle.rules.specs.States.{State}
 use Rattle.rules.specs.declared.Sizes.{Sizes}
 use Rattle.rules.proofs.Answered.{answered}

@@ -4,7 +4,6 @@ use Rattle.algebra.specs.Algebra.{Field}
 use Rattle.rules.specs.Calls.{Answer, intake, done, refused}
 use Rattle.rules.specs.Promises.{Promise}
 use Rattle.rules.specs.States.{State, k, p, n, m, symbol-at}
-use Rattle.reports.specs.declared.cards.Card.{Card}
 use Rattle.reports.specs.declared.cards.Cards.{Cards}
 use Rattle.reports.specs.declared.cards.Outcome.{Outcome}
 use Rattle.reports.specs.declared.cards.Outcome.TheVariants.{Taken, Refused}

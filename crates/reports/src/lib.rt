@@ -7,9 +7,8 @@ ghost use Rattle.reports.specs.Report.{input-refusal-number, sizes-of, ImageOutc
 mod cards;
 mod text;
 
-pub use cards::{Card, Cards, Outcome};
-
 use cards::take_in;
+pub use cards::{Card, Cards, Outcome};
 use image_shelves::{ByteImage, CounterImage};
 use images::{FieldKind, Head, ImageRefusal};
 use rules::Sizes;

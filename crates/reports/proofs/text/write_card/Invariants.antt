@@ -1,4 +1,4 @@
-use Rattle.std.proofs.Common.{◌++◌, take, codes}
+use Rattle.std.proofs.Common.{take}
 use Rattle.std.specs.Fmt.{HasWritten, IsPlainFormatter}
 use Rattle.reports.specs.Text.{card-text}
 use Rattle.reports.proofs.text.write_card.Given as goal
