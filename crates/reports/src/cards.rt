@@ -16,7 +16,7 @@ pub struct Card {
     pub numbers: [usize; 8],
 }
 
-// The cards of a tray's rows, of so many components each. What stands beyond the rows is of no account.
+// The cards of a tray's rows, of so many components each, and zeros beyond the rows.
 #[derive(Drop)]
 pub struct Cards {
     pub rows: usize,
