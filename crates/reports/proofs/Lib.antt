@@ -1,3 +1,4 @@
 mod Listing
 mod Taking
 mod Once
+mod Exact

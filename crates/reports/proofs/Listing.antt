@@ -1,5 +1,5 @@
 -- Lists by their entries.
-use Rattle.std.proofs.Common.{◌≡◌, ℕ, zero, suc, ◌+◌, ◌<◌, List, [], ◌∷◌, ◌++◌, append_assoc, add-one, length, get_or, cond, ltb, replicate, sym, refl, ap, ◌∙◌, arith, le-ltb}
+use Rattle.std.proofs.Common.{◌≡◌, ℕ, zero, suc, ◌+◌, ◌<◌, ◌≤◌, take, ap₂, List, [], ◌∷◌, ◌++◌, append_assoc, add-one, length, get_or, cond, ltb, replicate, sym, refl, ap, ◌∙◌, arith, le-ltb}
 use Rattle.std.proofs.lemmas.List.{same_lists, get_or_default}
 use Rattle.reports.specs.Cards.{listed}
 use Rattle.reports.specs.Text.{lines}
@@ -33,3 +33,12 @@ none-set count x i v = rw (le-ltb i 0 (omega arith)) (get-same count x i)
 pub lines_more : (count : ℕ) (text : ℕ → List ℕ) (line : List ℕ) → line ≡ text count → (lines count text ++ 10 ∷ []) ++ line ≡ lines (count + 1) text
 lines_more count text line is =
     append_assoc (lines count text) (10 ∷ []) line ∙ ap (λ (v : List ℕ). lines count text ++ (10 ∷ v)) is ∙ ap (λ v. lines v text) (sym (add-one count))
+
+pub take-listed : {X : Type 0} (count i : ℕ) (x : ℕ → X) → i ≤ count → take i (listed count x) ≡ listed i x
+take-listed count zero x h = refl
+take-listed zero (suc i) x h = absurd (omega arith)
+take-listed (suc count) (suc i) x h = ap (λ v. x 0 ∷ v) (take-listed count i (λ j. x (suc j)) (omega arith))
+
+pub listed-same : {X : Type 0} (count : ℕ) (x y : ℕ → X) → ((i : ℕ) → i < count → x i ≡ y i) → listed count x ≡ listed count y
+listed-same zero x y e = refl
+listed-same (suc count) x y e = ap₂ (λ a b. a ∷ b) (e 0 (omega arith)) (listed-same count (λ j. x (suc j)) (λ j. y (suc j)) (λ i h. e (suc i) (omega arith)))

@@ -36,7 +36,7 @@ module _ {A : Type 0} (F : Field A) (s : State A) where
       λ i. record { rows = is i; components = m s; cards = whole i }
 
 module _ {A : Type 0} (F : Field A) where
-  taken-fits : (s after : State A) → Promise F s intake done after → (after.sizes ≡ s.sizes) × (fits F s ≡ true)
+  pub taken-fits : (s after : State A) → Promise F s intake done after → (after.sizes ≡ s.sizes) × (fits F s ≡ true)
   taken-fits s _ (accepted none did-intake) = (refl, sure _ (λ e. none _ (unfit intake e)))
 
   pub told-taken : (made s after : State A) (cards : Cards) → made ≡ s → Promise F made intake done after

@@ -2,6 +2,7 @@
 #![tactic(auto)]
 
 ghost use Rattle.std.specs.Prelude.{◌≡◌, Some};
+ghost use Rattle.reports.specs.Exact.{ReportExact};
 ghost use Rattle.reports.specs.Report.{input-refusal-number, sizes-of, ImageOutcome, Reported, OnlyReport};
 
 mod cards;
@@ -62,10 +63,11 @@ fn take_in_image(field: FieldKind, sizes: Sizes, bytes: &mut [u8]) -> Outcome
     }
 }
 
-// The report on an input. Where the tray is taken in, its cards then stand in the bytes.
+// The report on an input. The tray is made over these bytes: where it is taken in, its cards are put there.
 pub fn answer(bytes: &mut [u8]) -> Report
     ensures value { Reported bytes.old result }
     ensures only { OnlyReport bytes.old result }
+    ensures exact { ReportExact bytes.old result }
 {
     if bytes.len() > INPUT_LIMIT {
         return Report::NoImage(InputRefusal::TooLong);
