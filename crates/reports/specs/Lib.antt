@@ -1,2 +1,4 @@
+pub mod Cards
 pub mod Report
 pub mod Text
+pub mod Exact

@@ -2,11 +2,17 @@
 #![tactic(auto)]
 
 ghost use Rattle.std.specs.Prelude.{◌≡◌, Some};
-ghost use Rattle.reports.specs.Report.{input-refusal-number, reported};
-ghost use Rattle.reports.specs.Text.{report-text};
+ghost use Rattle.reports.specs.Exact.{ReportExact};
+ghost use Rattle.reports.specs.Report.{input-refusal-number, sizes-of, ImageOutcome, Reported, OnlyReport};
 
-use images::{Head, ImageRefusal};
-use std::fmt;
+mod cards;
+mod text;
+
+use cards::take_in;
+pub use cards::{Card, Cards, Outcome};
+use image_shelves::{ByteImage, CounterImage};
+use images::{FieldKind, Head, ImageRefusal};
+use rules::Sizes;
 
 // The most bytes of input that are looked at.
 pub const INPUT_LIMIT: usize = 65_536;
@@ -29,43 +35,49 @@ impl InputRefusal {
     }
 }
 
-#[derive(Clone, Copy, PartialEq, Eq, Debug)]
+#[derive(Drop)]
 pub enum Report {
-    Refused(InputRefusal),
-    Tray(Head),
+    NoImage(InputRefusal),
+    Tray(Head, Outcome),
 }
 
-// The report on an input.
-pub fn answer(bytes: &[u8]) -> Report
-    ensures { result ≡ reported bytes.now }
+// The sizes that an image's head says.
+fn sizes_of(head: &Head) -> Sizes
+    ensures { result ≡ sizes-of head.now }
+{
+    Sizes {
+        data_rows: head.data_rows as usize,
+        parity_rows: head.parity_rows as usize,
+        block_length: head.block_length as usize,
+        card_length: head.card_length as usize,
+    }
+}
+
+// Takes in a new tray of these sizes over the image shelf of a field.
+fn take_in_image(field: FieldKind, sizes: Sizes, bytes: &mut [u8]) -> Outcome
+    ensures { ImageOutcome field sizes bytes.old result }
+{
+    match field {
+        FieldKind::Byte => take_in(ByteImage::over(bytes), sizes),
+        FieldKind::Counter => take_in(CounterImage::over(bytes), sizes),
+    }
+}
+
+// The report on an input. The tray is made over these bytes: where it is taken in, its cards are put there.
+pub fn answer(bytes: &mut [u8]) -> Report
+    ensures value { Reported bytes.old result }
+    ensures only { OnlyReport bytes.old result }
+    ensures exact { ReportExact bytes.old result }
 {
     if bytes.len() > INPUT_LIMIT {
-        return Report::Refused(InputRefusal::TooLong);
+        return Report::NoImage(InputRefusal::TooLong);
     }
     match images::check(bytes) {
-        Ok(head) => Report::Tray(head),
-        Err(refusal) => Report::Refused(InputRefusal::Image(refusal)),
-    }
-}
-
-impl fmt::Display for Report {
-    ghost output = { λ r. Some (report-text r) };
-
-    fn fmt<W: fmt::Write>(&self, f: &mut fmt::Formatter<W>) -> fmt::Result {
-        match self {
-            Report::Refused(refusal) => {
-                let number = refusal.number();
-                write!(f, "image refused {number}")
-            }
-            Report::Tray(head) => {
-                let kind = head.field.number();
-                let k = head.data_rows;
-                let p = head.parity_rows;
-                let n = head.block_length;
-                let m = head.card_length;
-                write!(f, "tray {kind} {k} {p} {n} {m}")
-            }
+        Ok(head) => {
+            let outcome = take_in_image(head.field, sizes_of(&head), bytes);
+            Report::Tray(head, outcome)
         }
+        Err(refusal) => Report::NoImage(InputRefusal::Image(refusal)),
     }
 }
 

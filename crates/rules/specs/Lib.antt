@@ -13,3 +13,4 @@ pub mod Crosses
 pub mod Writes
 pub mod Rounds
 pub mod Parity
+pub mod Text

@@ -1,12 +1,15 @@
 // The types that a tray's answers are made of. What they mean, and what every call promises, stands in specs/.
 #![tactic(auto)]
 
-ghost use Rattle.std.specs.Prelude.{◌≡◌, ◌+◌, ◌^◌, ◌<◌, not, slice_set};
-ghost use Rattle.rules.specs.Calls.{own-number, layer as layer-of, is-sound};
+ghost use Rattle.std.specs.Prelude.{◌≡◌, ◌+◌, ◌^◌, ◌<◌, not, slice_set, Some};
+ghost use Rattle.rules.specs.Calls.{own-number, returned, layer as layer-of, is-sound};
 ghost use Rattle.rules.specs.Search.{counted, lowest};
 ghost use Rattle.rules.specs.Sheets.{entered, entry-at, next-row, tallied, turn-answer, turned};
 ghost use Rattle.rules.specs.States.{unread, within-limits};
+ghost use Rattle.rules.specs.Text.{numbers-text};
 ghost use Rattle.rules.specs.Updates.{entry-bad, entry-sound};
+
+use std::fmt;
 
 // The four sizes of a tray.
 #[derive(Clone, Copy, PartialEq, Eq, Debug)]
@@ -255,6 +258,29 @@ impl Refusal {
             Refusal::Unsound(_, Verdict::Card(_)) => Layer::Row,
             Refusal::Misfit(_, _) => Layer::Tray,
             _ => Layer::Call,
+        }
+    }
+}
+
+// The numbers that a refusal returns: its own, and what it carries.
+impl fmt::Display for Refusal {
+    ghost output = { λ r. Some (numbers-text (returned r)) };
+
+    fn fmt<W: fmt::Write>(&self, f: &mut fmt::Formatter<W>) -> fmt::Result {
+        let number = self.number();
+        match *self {
+            Refusal::DoesNotFit
+            | Refusal::NotTakenIn
+            | Refusal::TakenInAlready
+            | Refusal::WrongPhase => write!(f, "{number}"),
+            Refusal::NoSuchRow(carried)
+            | Refusal::BadSpan(carried)
+            | Refusal::Unsound(carried, Verdict::Sound)
+            | Refusal::TooManyUnsound(carried)
+            | Refusal::StillWalking(carried) => write!(f, "{number} {carried}"),
+            Refusal::Unsound(row, Verdict::Hole(at) | Verdict::Card(at))
+            | Refusal::Unreadable(row, at)
+            | Refusal::Misfit(row, at) => write!(f, "{number} {row} {at}"),
         }
     }
 }

@@ -1,4 +1,4 @@
-// Reads an image from standard input, and prints its sizes or why it was refused.
+// Reads an image from standard input, takes its tray in, and prints its sizes and cards, or why it was refused.
 #![tactic(auto)]
 
 use std::io::Read;
@@ -9,7 +9,7 @@ fn run(rt: &HostRuntime) -> anyhow::Result<()> {
     rt.stdin()
         .take(reports::INPUT_LIMIT as u64 + 1)
         .read_to_end(&mut input)?;
-    rt.println(reports::answer(&input))?;
+    rt.println(reports::answer(&mut input))?;
     Ok(())
 }
 

@@ -1,0 +1,4 @@
+mod Listing
+mod Taking
+mod Once
+mod Exact

@@ -1,0 +1,43 @@
+-- What intake makes of a new tray: the cards that it leaves, by their numbers, or why it was refused.
+use Rattle.std.specs.Prelude.{◌≡◌, ℕ, zero, suc, ◌+◌, cond, ◌&&◌, List, [], ◌∷◌, min, take, nat_lt, slice_index_or}
+use Rattle.algebra.specs.Algebra.{Field}
+use Rattle.rules.specs.Calls.{Answer, intake, done, refused}
+use Rattle.rules.specs.Promises.{Promise}
+use Rattle.rules.specs.States.{State, k, p, n, m, symbol-at}
+use Rattle.reports.specs.declared.cards.Cards.{Cards}
+use Rattle.reports.specs.declared.cards.Outcome.{Outcome}
+use Rattle.reports.specs.declared.cards.Outcome.TheVariants.{Taken, Refused}
+
+-- x 0, .., x (count - 1)
+abbrev pub listed : {X : Type 0} → (count : ℕ) → (ℕ → X) → List X
+listed zero x = []
+listed (suc count) x = x 0 ∷ listed count (λ i. x (suc i))
+
+module _ {A : Type 0} (F : Field A) (s : State A) where
+  -- the number of a component of a row's card, and 0 where there is none
+  abbrev pub component-number : ℕ → ℕ → ℕ
+  component-number row c = cond (nat_lt row (k s + p s) && nat_lt c (m s)) (F.number (symbol-at F s row (n s + c))) 0
+
+  -- A table has room for 68 cards of 8 components, which no tray that fits exceeds.
+  abbrev pub cards-of : Cards
+  cards-of = record { rows = k s + p s; components = m s; cards = listed 68 (λ row. record { numbers = listed 8 (component-number row) }) }
+
+-- the numbers of a row's components in such a table, and none beyond it
+abbrev pub numbers_of : Cards → ℕ → List ℕ
+numbers_of t row = take (min t.components 8) (slice_index_or t.cards row (record { numbers = [] })).numbers
+
+abbrev pub answer-told : {A : Type 0} → Outcome → Answer A
+answer-told (Taken cards) = done
+answer-told (Refused r) = refused r
+
+module _ {A : Type 0} (F : Field A) where
+  -- the cards told are those that stand in the state after
+  abbrev pub CardsTold : State A → Outcome → Type 0
+  CardsTold after (Taken cards) = cards ≡ cards-of F after
+  CardsTold after (Refused r) = Unit {0}
+
+  -- An outcome of intake in a state: what the call's promise answers, and the cards that it leaves.
+  pub record Outcome-of (s : State A) (o : Outcome) : Type 0 where
+    pub after : State A
+    pub promise : Promise F s intake (answer-told o) after
+    pub cards : CardsTold after o

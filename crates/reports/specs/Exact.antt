@@ -1,0 +1,39 @@
+-- What a report on an image amounts to: it tells of an intake exactly where the tray can be delivered, and then the numbers of each row's card are those of
+-- the signature of the row's block in the image.
+use Rattle.std.specs.Prelude.{◌≡◌, ℕ, ◌+◌, ◌<◌, ◌↔◌, List}
+use Rattle.algebra.specs.Algebra.{Field}
+use Rattle.byte_field.specs.Meaning.{byte-algebra, byte-meaning}
+use Rattle.counter_field.specs.Meaning.{counter-algebra, counter-meaning}
+use Rattle.images.specs.declared.FieldKind.{FieldKind}
+use Rattle.images.specs.declared.FieldKind.TheVariants.{Byte, Counter}
+use Rattle.images.specs.declared.Head.{Head}
+use Rattle.image_shelves.specs.Fields.{byte-image, counter-image}
+use Rattle.rules.specs.Codes.{component}
+use Rattle.rules.specs.Exact.{Deliverable}
+use Rattle.rules.specs.States.{State, k, p, n, m, symbol-at}
+use Rattle.rules.specs.Views.{seen}
+use Rattle.rules.specs.declared.Sizes.{Sizes}
+use Rattle.reports.specs.Cards.{listed, numbers_of}
+use Rattle.reports.specs.Report.{sizes-of}
+use Rattle.reports.specs.declared.Report.{Report}
+use Rattle.reports.specs.declared.Report.TheVariants.{Tray}
+use Rattle.reports.specs.declared.cards.Cards.{Cards}
+use Rattle.reports.specs.declared.cards.Outcome.{Outcome}
+use Rattle.reports.specs.declared.cards.Outcome.TheVariants.{Taken}
+
+module _ {A : Type 0} (F : Field A) (s : State A) where
+  -- the numbers of the signature of a row's block
+  abbrev pub signature-numbers : ℕ → List ℕ
+  signature-numbers row = listed (m s) (λ c. F.number (component F (n s) (symbol-at F s row) c))
+
+  pub record OutcomeExact (o : Outcome) : Type 0 where
+    pub taken : ((cards : Cards) × (o ≡ Taken cards)) ↔ Deliverable F s
+    pub rows : (cards : Cards) → o ≡ Taken cards → cards.rows ≡ k s + p s
+    pub cards : (cards : Cards) → o ≡ Taken cards → (row : ℕ) → row < k s + p s → numbers_of cards row ≡ signature-numbers row
+
+abbrev pub ImageExact : FieldKind → Sizes → List ℕ → Outcome → Type 0
+ImageExact Byte sizes bytes o = OutcomeExact byte-algebra (seen byte-meaning sizes (byte-image bytes)) o
+ImageExact Counter sizes bytes o = OutcomeExact counter-algebra (seen counter-meaning sizes (counter-image bytes)) o
+
+abbrev pub ReportExact : List ℕ → Report → Type 0
+ReportExact bytes report = (h : Head) (o : Outcome) → report ≡ Tray h o → ImageExact h.field (sizes-of h) bytes o

@@ -1,0 +1,88 @@
+// Intake of a new tray over any shelf, and the cards that it leaves, by their numbers.
+
+ghost use Rattle.std.specs.Prelude.{◌≡◌, ◌+◌, ◌<◌, ◌≤◌};
+ghost use Rattle.reports.specs.Cards.{cards-of, numbers_of, listed, component-number, Outcome-of};
+ghost use Rattle.rules.specs.Views.{seen};
+
+use algebra::Field;
+use rows::symbol_at;
+use rules::{Refusal, Sizes};
+use shelves::Shelf;
+use tray::Tray;
+
+// The numbers of a card's components, and zeros beyond them.
+#[derive(Clone, Copy, PartialEq, Eq, Debug)]
+pub struct Card {
+    pub numbers: [usize; 8],
+}
+
+// The cards of a tray's rows, of so many components each, and zeros beyond the rows.
+#[derive(Drop)]
+pub struct Cards {
+    pub rows: usize,
+    pub components: usize,
+    pub cards: [Card; 68],
+}
+
+impl Cards {
+    // The numbers of a row's components; none beyond the table.
+    pub fn numbers_of(&self, row: usize) -> &[usize]
+        ensures { result.now ≡ numbers_of self.now row }
+    {
+        match self.cards.get(row) {
+            Some(card) => &card.numbers[..self.components.min(8)],
+            None => &[],
+        }
+    }
+}
+
+// What intake answered.
+#[derive(Drop)]
+pub enum Outcome {
+    Taken(Cards),
+    Refused(Refusal),
+}
+
+// The card that stands in a row below the tray's rows.
+fn read_card<S: Shelf>(shelf: &S, sizes: Sizes, row: usize) -> Card
+where
+    S::Symbol: Field,
+    ensures { row < sizes.data_rows + sizes.parity_rows → sizes.block_length ≤ 4096 → sizes.card_length ≤ 8 → result.numbers ≡ listed 8 (component-number S.Symbol.Field.algebra (seen S.Symbol.Field.meaning sizes (S.Shelf.contents shelf.now)) row) }
+{
+    let mut numbers = [0; 8];
+    for c in 0..sizes.card_length.min(8) {
+        numbers[c] = symbol_at(shelf, row, sizes.block_length.saturating_add(c)).number();
+    }
+    Card { numbers }
+}
+
+// The cards that stand on a shelf.
+fn read_cards<S: Shelf>(shelf: &S, sizes: Sizes) -> Cards
+where
+    S::Symbol: Field,
+    ensures { sizes.data_rows ≤ 64 → sizes.parity_rows ≤ 4 → sizes.block_length ≤ 4096 → sizes.card_length ≤ 8 → result ≡ cards-of S.Symbol.Field.algebra (seen S.Symbol.Field.meaning sizes (S.Shelf.contents shelf.now)) }
+{
+    let rows = sizes.data_rows.saturating_add(sizes.parity_rows);
+    let mut cards = [Card { numbers: [0; 8] }; 68];
+    for row in 0..rows.min(68) {
+        cards[row] = read_card(shelf, sizes, row);
+    }
+    Cards {
+        rows,
+        components: sizes.card_length,
+        cards,
+    }
+}
+
+// Takes in a new tray of these sizes over a shelf.
+pub fn take_in<S: Shelf + Drop>(shelf: S, sizes: Sizes) -> Outcome
+where
+    S::Symbol: Field,
+    ensures { Outcome-of S.Symbol.Field.algebra (seen S.Symbol.Field.meaning sizes (S.Shelf.contents shelf)) result }
+{
+    let mut tray = Tray::over(shelf, sizes);
+    match tray.intake() {
+        Ok(()) => Outcome::Taken(read_cards(&tray.into_shelf(), sizes)),
+        Err(refusal) => Outcome::Refused(refusal),
+    }
+}
