@@ -94,4 +94,7 @@ module _ {X : Type 0} (F : Field X) where
   run-kept (suffers run cells damage) = record { fitting = (run-kept run).fitting; taken = (run-kept run).taken; each_row = damage }
 
   pub faithful : Faithful F
-  faithful blocks s run = (audit-equal blocks s (run-kept run), mend-equal F s blocks (run-kept run))
+  faithful s = (
+    λ row answer s' promise blocks run l. audit-equal blocks s (run-kept run) row l answer s' promise,
+    λ answer s' promise blocks run. mend-equal F s blocks (run-kept run) answer s' promise,
+  )

@@ -17,7 +17,7 @@ module _ {X : Type 0} (F : Field X) (s : State X) where
   abbrev pub good : ℕ → Bool
   good i = sound F s (k s + i)
 
-  enough : unsound-count F s ≤ p s → counted (k s) bad ≤ counted (p s) good
+  pub enough : unsound-count F s ≤ p s → counted (k s) bad ≤ counted (p s) good
   enough few = omega (arith, counted-add (k s) (p s) bad, counted-not (p s) good)
 
   -- what a sound row holds

@@ -75,11 +75,16 @@ module _ {X : Type 0} (F : Field X) where
         → (blocks' : ℕ → ℕ → X) → Follows blocks s c blocks' → Run blocks' s'
     suffers : {blocks : ℕ → ℕ → X} {s : State X} → Run blocks s → (cells : ℕ → ℕ → Cell X) → Damage blocks s cells → Run blocks (with-cells s cells)
 
-  -- After any run, audit answers sound exactly when the row equals its twin, and mend leaves
-  -- the whole tray equal to the twin exactly when at most p rows were struck.
+  -- What audit of a row of the tray answers after a run: sound exactly when that row equals its twin.
+  abbrev pub AuditFaithful : State X → ℕ → Answer X → Type 0
+  AuditFaithful s row answer = (blocks : ℕ → ℕ → X) → Run blocks s → row < k s + p s → (answer ≡ judged Sound) ↔ EqualRow blocks s row
+
+  -- What mend leaves after a run: the whole tray equal to the twin exactly when at most p rows were struck at that call.
+  abbrev pub MendFaithful : State X → State X → Type 0
+  MendFaithful s s' = (blocks : ℕ → ℕ → X) → Run blocks s → ((row : ℕ) → row < k s + p s → EqualRow blocks s' row) ↔ AtMostStruck (p s) blocks s
+
+  -- The law over runs: whatever state a run has led to, audit and mend, called next, do this.
   abbrev pub Faithful : Type 0
-  Faithful = (blocks : ℕ → ℕ → X) (s : State X) → Run blocks s
-      → ((row : ℕ) → row < k s + p s → (answer : Answer X) (s' : State X) → Promise F s (audit row) answer s'
-      → (answer ≡ judged Sound) ↔ EqualRow blocks s row)
-      × ((answer : Answer X) (s' : State X) → Promise F s mend answer s'
-      → ((row : ℕ) → row < k s + p s → EqualRow blocks s' row) ↔ AtMostStruck (p s) blocks s)
+  Faithful = (s : State X)
+      → ((row : ℕ) (answer : Answer X) (s' : State X) → Promise F s (audit row) answer s' → AuditFaithful s row answer)
+      × ((answer : Answer X) (s' : State X) → Promise F s mend answer s' → MendFaithful s s')

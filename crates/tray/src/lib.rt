@@ -1,16 +1,19 @@
 // A tray: a redundancy group over any shelf, and its calls.
 #![tactic(auto)]
 
-ghost use Rattle.std.specs.Prelude.{◌≡◌, ◌+◌, ◌^◌, ◌<◌, length, map, OnErr};
+ghost use Rattle.std.specs.Prelude.{◌≡◌, ℕ, ◌+◌, ◌^◌, ◌<◌, length, map, OnErr};
+ghost use Rattle.algebra.specs.Algebra.{Field as Algebra};
+ghost use Rattle.algebra.specs.Below.{Below};
 ghost use Rattle.rules.specs.Calls.{fit as fit-call, intake as intake-call, audit as audit-call, read as read-call, write as write-call, cross as cross-call};
-ghost use Rattle.rules.specs.Calls.{begin as begin-call, step as step-call, totals as totals-call, record_of as record-call, first as first-call};
-ghost use Rattle.rules.specs.Calls.{judged, entry-is, lowest-is};
+ghost use Rattle.rules.specs.Calls.{begin as begin-call, step as step-call, totals as totals-call, record_of as record-call, first as first-call, mend as mend-call};
+ghost use Rattle.rules.specs.Calls.{judged, entry-is, lowest-is, mended};
 ghost use Rattle.rules.specs.Audits.{AuditExact, ChangesSeen, NoLongerSound};
 ghost use Rattle.rules.specs.Crosses.{CrossAccepts};
-ghost use Rattle.rules.specs.Exact.{IntakeExact};
-ghost use Rattle.rules.specs.Promises.{Promise};
+ghost use Rattle.rules.specs.Exact.{IntakeExact, MendExact};
+ghost use Rattle.rules.specs.Promises.{Promise, Answered};
 ghost use Rattle.rules.specs.Rounds.{RoundExact};
 ghost use Rattle.rules.specs.States.{fits};
+ghost use Rattle.rules.specs.Twins.{AuditFaithful, MendFaithful, Faithful};
 ghost use Rattle.rules.specs.Updates.{allowed};
 ghost use Rattle.rules.specs.Views.{seen};
 ghost use Rattle.rules.specs.Writes.{WriteExact};
@@ -150,6 +153,7 @@ where
         ensures exact { AuditExact S.Symbol.Field.algebra }
         ensures changes { ChangesSeen S.Symbol.Field.algebra }
         ensures no_longer { NoLongerSound S.Symbol.Field.algebra }
+        ensures after_runs { AuditFaithful S.Symbol.Field.algebra (state S.Shelf.contents S.Symbol.Field.meaning self.now) row (answer-by judged result) }
     {
         self.ready()?;
         if row >= self.rows() {
@@ -279,5 +283,31 @@ where
     {
         self.ready()?;
         Ok(self.sheet.first_unsound(self.rows()))
+    }
+
+    // Puts back every row that is not sound, block and card, from the rows that are. It audits all rows afresh and never looks at the sheet.
+    pub fn mend(&mut self) -> Result<usize, Refusal>
+        ensures promise { Promise S.Symbol.Field.algebra (state S.Shelf.contents S.Symbol.Field.meaning self.old) mend-call (answer-by mended result) (state S.Shelf.contents S.Symbol.Field.meaning self.new) }
+        ensures exact { MendExact S.Symbol.Field.algebra }
+        ensures answered { (q : ℕ) (F : Algebra (Below q)) → Answered F }
+        ensures law { (q : ℕ) (F : Algebra (Below q)) → Faithful F }
+        ensures after_runs { MendFaithful S.Symbol.Field.algebra (state S.Shelf.contents S.Symbol.Field.meaning self.old) (state S.Shelf.contents S.Symbol.Field.meaning self.new) }
+    {
+        self.ready()?;
+        let damage = mending::gather(&self.shelf, self.sizes);
+        if damage.count > self.sizes.parity_rows {
+            return Err(Refusal::TooManyUnsound(damage.count));
+        }
+        let plan = mending::make_plan::<S::Symbol>(self.sizes, &damage);
+        if let Some((i, place)) = mending::first_worked_misfit(
+            &self.shelf,
+            self.sizes,
+            &damage,
+            &plan,
+        ) {
+            return Err(Refusal::Misfit(self.sizes.data_rows.saturating_add(i), place));
+        }
+        mending::put_rows(&mut self.shelf, self.sizes, &damage, &plan);
+        Ok(damage.count)
     }
 }

@@ -1,5 +1,8 @@
-use Rattle.std.proofs.Common.{◌≡◌, ◌+◌, arith}
+use Rattle.std.proofs.Common.{◌≡◌, ◌+◌, refl, arith}
+use Rattle.std.proofs.lemmas.Result.{err_from_is_err_and}
+use Rattle.rules.specs.Calls.{audit}
 use Rattle.rules.specs.States.{k, p}
+use Rattle.rules.proofs.Law.{faithful}
 use Rattle.rules.proofs.Rows.{fitting}
 use Rattle.tray.specs.State.{state}
 use Rattle.tray.proofs.Answering.{audit-no-row, audit-judged}
@@ -48,3 +51,13 @@ returns-clause-changes g c = changes-seen g.S.Symbol.Field.algebra
 
 pub returns-clause-no_longer : goal.returns-clause-no_longer
 returns-clause-no_longer g c = no-longer-sound g.S.Symbol.Field.algebra
+
+pub returns-in_err-ready-clause-after_runs : goal.returns-in_err-ready-clause-after_runs
+returns-in_err-ready-clause-after_runs g c =
+    let q = err_from_is_err_and c.from_residual.result c.from_residual.ensures.1 in
+    rw (q.1, q.2)
+    ((faithful g.S.Symbol.Field.algebra (state g.S.Shelf.contents g.S.Symbol.Field.meaning c.args.self.now)).0 c.args.row _ _ (c.in_err-ready.ensures (audit c.args.row) refl))
+
+pub returns-clause-after_runs : goal.returns-clause-after_runs
+returns-clause-after_runs g c =
+    (faithful g.S.Symbol.Field.algebra (state g.S.Shelf.contents g.S.Symbol.Field.meaning c.args.self.now)).0 c.args.row _ _ (returns-clause-promise g c)
