@@ -17,7 +17,7 @@ pub struct Card {
 }
 
 // The cards of a tray's rows, of so many components each, and zeros beyond the rows.
-#[derive(Drop)]
+#[derive(PartialEq, Eq, Debug, Drop)]
 pub struct Cards {
     pub rows: usize,
     pub components: usize,
@@ -37,7 +37,7 @@ impl Cards {
 }
 
 // What intake answered.
-#[derive(Drop)]
+#[derive(PartialEq, Eq, Debug, Drop)]
 pub enum Outcome {
     Taken(Cards),
     Refused(Refusal),

@@ -35,7 +35,7 @@ impl InputRefusal {
     }
 }
 
-#[derive(Drop)]
+#[derive(PartialEq, Eq, Debug, Drop)]
 pub enum Report {
     NoImage(InputRefusal),
     Tray(Head, Outcome),
