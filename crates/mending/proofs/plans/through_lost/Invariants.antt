@@ -2,7 +2,7 @@ use Rattle.std.proofs.Common.{◌≡◌, ◌+◌, ◌<◌, ◌≤◌, ℕ, get_o
 use Rattle.algebra.specs.Sum.{sum_to}
 use Rattle.algebra.specs.Theorems.{coefficient}
 use Rattle.mending.specs.Plans.{weight-in}
-use Rattle.mending.proofs.through_lost.Given as goal
+use Rattle.mending.proofs.plans.through_lost.Given as goal
 
 abbrev pub invariant-loop-b : goal.invariant-loop-b
 invariant-loop-b g l =

@@ -1,7 +1,7 @@
 use Rattle.std.proofs.Common.{◌≡◌, ◌+◌, ◌<◌, ◌≤◌, ℕ, get_or, length}
 use Rattle.mending.specs.Stored.{stored}
 use Rattle.mending.specs.Plans.{flag, weight-of}
-use Rattle.mending.proofs.parity_weights.Given as goal
+use Rattle.mending.proofs.plans.parity_weights.Given as goal
 
 abbrev pub invariant-loop-row : goal.invariant-loop-row
 invariant-loop-row g l =

@@ -1,7 +1,7 @@
 use Rattle.std.proofs.Common.{◌≡◌, ◌+◌, ◌<◌, ◌≤◌, ℕ, length, get_or}
 use Rattle.mending.specs.Stored.{stored}
 use Rattle.mending.specs.Plans.{flag, share}
-use Rattle.mending.proofs.shares.Given as goal
+use Rattle.mending.proofs.plans.shares.Given as goal
 
 abbrev pub invariant-loop-a : goal.invariant-loop-a
 invariant-loop-a g l =

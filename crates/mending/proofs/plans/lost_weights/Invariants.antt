@@ -1,7 +1,7 @@
 use Rattle.std.proofs.Common.{◌≡◌, ◌<◌, ℕ, length}
 use Rattle.mending.specs.Stored.{stored}
 use Rattle.mending.specs.Plans.{weight-in}
-use Rattle.mending.proofs.lost_weights.Given as goal
+use Rattle.mending.proofs.plans.lost_weights.Given as goal
 
 abbrev pub invariant-loop-row : goal.invariant-loop-row
 invariant-loop-row g l =

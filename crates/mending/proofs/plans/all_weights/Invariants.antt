@@ -1,7 +1,7 @@
 use Rattle.std.proofs.Common.{◌≡◌, ◌<◌, ◌≤◌, ℕ, length, get_or}
 use Rattle.algebra.specs.Theorems.{Square, Solves}
 use Rattle.mending.specs.Plans.{flag, share, weight-in}
-use Rattle.mending.proofs.all_weights.Given as goal
+use Rattle.mending.proofs.plans.all_weights.Given as goal
 
 abbrev pub invariant-loop-row : goal.invariant-loop-row
 invariant-loop-row g l =

@@ -1,7 +1,7 @@
 use Rattle.std.proofs.Common.{◌≤◌, ◌+◌, arith}
 use Rattle.mending.specs.Plans.{flag}
 use Rattle.mending.proofs.Planning.{planned-by}
-use Rattle.mending.proofs.make_plan.Goals as goal
+use Rattle.mending.proofs.plans.make_plan.Goals as goal
 
 pub returns : goal.returns
 returns g c few four room enough =

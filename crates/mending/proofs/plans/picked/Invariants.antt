@@ -1,7 +1,7 @@
 use Rattle.std.proofs.Common.{◌≡◌, ◌+◌, ◌<◌, ◌≤◌, ℕ, length, get_or}
 use Rattle.rules.specs.Search.{counted}
 use Rattle.mending.specs.Plans.{flag, equally, Picked}
-use Rattle.mending.proofs.picked.Given as goal
+use Rattle.mending.proofs.plans.picked.Given as goal
 
 abbrev pub invariant-loop-i : goal.invariant-loop-i
 invariant-loop-i l = record {

@@ -2,7 +2,7 @@ use Rattle.std.proofs.Common.{[], sym, ap, ◌∙◌, ltb-false}
 use Rattle.std.proofs.lemmas.List.{get_or_past}
 use Rattle.mending.specs.Stored.{stored}
 use Rattle.mending.proofs.Numbers.{element-zero}
-use Rattle.mending.proofs.planned.Goals as goal
+use Rattle.mending.proofs.plans.planned.Goals as goal
 
 pub returns-in-None : goal.returns-in-None
 returns-in-None g c =

@@ -3,7 +3,7 @@ use Rattle.mending.specs.Stored.{stored, element-of}
 use Rattle.mending.specs.Plans.{flag, share}
 use Rattle.mending.proofs.Numbers.{element-small}
 use Rattle.mending.proofs.Planning.{solved-by}
-use Rattle.mending.proofs.working.Goals as goal
+use Rattle.mending.proofs.plans.working.Goals as goal
 
 pub returns : goal.returns
 returns g c few four square =
