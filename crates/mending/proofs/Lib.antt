@@ -2,5 +2,6 @@ mod Numbers
 mod Solving
 mod Planning
 mod Weighing
+mod Gathering
 pub mod Stating
 mod Putting

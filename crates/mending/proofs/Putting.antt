@@ -140,7 +140,7 @@ module _ {X A : Type 0} (F : Field A) (meaning : X → A) (sizes : Sizes) where
 
     -- rows mended one after the other
     module _ (fit : fits F s ≡ true) (few : unsound-count F s ≤ p s) (damage : Damage) (gathered : Gathered F s damage) (plan : Plan)
-        (planned : Planned F (k s) (p s) (flag damage.sound) plan) (blocks : ℕ → ℕ → A) (w : Worked F s blocks) (row : ℕ) (h : row < k s + p s) (now : Contents X)
+        (planned : Planned F (k s) (p s) (flag damage) plan) (blocks : ℕ → ℕ → A) (w : Worked F s blocks) (row : ℕ) (h : row < k s + p s) (now : Contents X)
         (held : Holds F meaning sizes before (mended-below F meaning sizes blocks before row) now) where
       -- a sound row stays as it is
       mended-sound : (r t : ℕ) → sound F s r ≡ true → mended-cells F s blocks r t ≡ cell s r t
@@ -185,13 +185,13 @@ module _ {X A : Type 0} (F : Field A) (meaning : X → A) (sizes : Sizes) where
             (λ q. beside (row + 1) r t refl (λ i. both_ways _ q (eq-eqb r row i)));
       }
 
-      module _ (weights : ℕ → A) (are : (source : ℕ) → source < k s + p s → weights source ≡ weight-of F (k s) (flag damage.sound) plan row source) (off : sound F s row ≡ false)
+      module _ (weights : ℕ → A) (are : (source : ℕ) → source < k s + p s → weights source ≡ weight-of F (k s) (flag damage) plan row source) (off : sound F s row ≡ false)
           (after : Contents X) (put : Holds F meaning sizes now (row-cells F meaning sizes weights row now) after) where
-        term-is : (source t : ℕ) → source < k s + p s → F.mul (weights source) (element-at F meaning now source t) ≡ F.mul (weight-of F (k s) (flag damage.sound) plan row source) (symbol-at F s source t)
+        term-is : (source t : ℕ) → source < k s + p s → F.mul (weights source) (element-at F meaning now source t) ≡ F.mul (weight-of F (k s) (flag damage) plan row source) (symbol-at F s source t)
         term-is source t l =
             ap (λ x. F.mul x (element-at F meaning now source t)) (are source l)
             ∙ by_cases (sound F s source)
-            (λ e. ap (λ c. F.mul (weight-of F (k s) (flag damage.sound) plan row source) (symbol-or F.zer c)) (still source t e))
+            (λ e. ap (λ c. F.mul (weight-of F (k s) (flag damage) plan row source) (symbol-or F.zer c)) (still source t e))
             (λ e.
             let z = no-weight-here F s fit few damage gathered plan planned row source h (inl off) l e in
             ap (λ x. F.mul x (element-at F meaning now source t)) z ∙ zero-mul F _ ∙ sym (ap (λ x. F.mul x (symbol-at F s source t)) z ∙ zero-mul F _))

@@ -35,13 +35,16 @@ lowest-alike bound test other e = lowest-alike-from test other bound bound 0 (om
 
 module _ {X : Type 0} (F : Field X) (s : State X) (fit : fits F s ≡ true) (few : unsound-count F s ≤ p s) (damage : Damage) (gathered : Gathered F s damage) where
   abbrev on : ℕ → Bool
-  on = flag damage.sound
+  on = flag damage
+
+  at-most-four : unsound-count F s ≤ 4
+  at-most-four = let f = fitting F s fit in omega (arith, f.p-high)
 
   same-bad : (j : ℕ) → j < k s + p s → lost F (k s) on j ≡ bad F s j
-  same-bad j h = ap not (gathered.rows j h)
+  same-bad j h = ap not (gathered.rows at-most-four j h)
 
   same-good : (i : ℕ) → i < p s → on (k s + i) ≡ good F s i
-  same-good i h = gathered.rows (k s + i) (omega arith)
+  same-good i h = gathered.rows at-most-four (k s + i) (omega arith)
 
   bads : counted (k s) (lost F (k s) on) ≡ counted (k s) (bad F s)
   bads = counted_alike (k s) _ _ (λ j h. same-bad j (omega arith))
@@ -71,13 +74,13 @@ module _ {X : Type 0} (F : Field X) (s : State X) (fit : fits F s ≡ true) (few
     blocks-worked = record {
       keeps = λ j place h l e.
           sound-symbol j place l e
-          ∙ ap symbol (sym (data-sound F (k s) (p s) _ _ on enough-of plan planned (λ row. symbol-at F s row place) j (gathered.rows j (omega arith) ∙ e)));
+          ∙ ap symbol (sym (data-sound F (k s) (p s) _ _ on enough-of plan planned (λ row. symbol-at F s row place) j (gathered.rows at-most-four j (omega arith) ∙ e)));
       solves = λ i place h l u.
           sound-symbol (k s + i) place l (and_parts _ _ u).0
           ∙ ap symbol (sym (used-fits F (k s) (p s) _ _ on enough-of plan planned (λ row. symbol-at F s row place) i h (used-here i h u)));
     }
 
-    -- at most four data rows are lost
+    -- at most at-most-four data rows are lost
     pub few-lost : plan.count ≤ 4
     few-lost = omega (arith, planned.count, enough-of, counted-not (p s) (λ i. on (k s + i)), (fitting F s fit).p-high)
 
@@ -86,7 +89,7 @@ module _ {X : Type 0} (F : Field X) (s : State X) (fit : fits F s ≡ true) (few
         → weight-of F (k s) on plan row source ≡ F.zer
     no-weight-here row source h worked l off =
         no-weight F (k s) (p s) (fitting F s fit).enough (fitting F s fit).p-high on enough-of plan planned row source h
-        (elim worked [ inl e ↦ inl (gathered.rows row h ∙ e) | inr more ↦ inr more ]) l (gathered.rows source l ∙ off)
+        (elim worked [ inl e ↦ inl (gathered.rows at-most-four row h ∙ e) | inr more ↦ inr more ]) l (gathered.rows at-most-four source l ∙ off)
 
     module _ (blocks : ℕ → ℕ → X) (w : Worked F s blocks) where
       same : (j place : ℕ) → j < k s → place < n s → blocks-by j place ≡ blocks j place
@@ -100,7 +103,7 @@ module _ {X : Type 0} (F : Field X) (s : State X) (fit : fits F s ≡ true) (few
           elim (cases_lt row (k s)) [
             | inl less ↦
                 let is : sound F s row ≡ false = elim worked [ inl e ↦ e | inr more ↦ absurd (omega arith) ] in
-                data-lost F (k s) (p s) _ _ on enough-of plan planned (λ source. symbol-at F s source place) row less (gathered.rows row h ∙ is)
+                data-lost F (k s) (p s) _ _ on enough-of plan planned (λ source. symbol-at F s source place) row less (gathered.rows at-most-four row h ∙ is)
                 ∙ same row place less l ∙ sym (block-data F (k s) blocks row place less)
             | inr more ↦
                 let e : k s + (row - k s) ≡ row = omega arith in

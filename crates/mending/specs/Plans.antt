@@ -1,5 +1,6 @@
 -- Which rows are used, and with which weights the symbols of rows that are not sound follow from rows that are.
-use Rattle.std.specs.Prelude.{◌≡◌, ℕ, ◌+◌, ◌-◌, ◌<◌, Bool, true, false, cond, not, ◌&&◌, ◌==◌, nat_lt, List, [], slice_index, slice_index_or}
+use Rattle.std.specs.Prelude.{◌≡◌, ℕ, ◌+◌, ◌-◌, ◌<◌, ◌≤◌, Bool, true, false, cond, not, ◌&&◌, ◌==◌, nat_lt, List, [], take, slice_index, slice_index_or}
+use Rattle.std.specs.List.{list_any}
 use Rattle.algebra.specs.Algebra.{Field, minus}
 use Rattle.algebra.specs.Sum.{sum_to}
 use Rattle.algebra.specs.Theorems.{coefficient}
@@ -9,9 +10,9 @@ use Rattle.mending.specs.declared.Damage.{Damage}
 use Rattle.mending.specs.declared.Plan.{Plan}
 use Rattle.mending.specs.Stored.{stored}
 
--- what an array says of a row
-abbrev pub flag : List Bool → ℕ → Bool
-flag flags row = slice_index_or flags row false
+-- a row is none of those that were gathered as not sound
+unfoldable pub flag : Damage → ℕ → Bool
+flag damage row = not (list_any (λ unsound. unsound == row) (take damage.count damage.rows))
 
 -- the flags as they are, or the other way round
 abbrev pub equally : Bool → Bool → Bool
@@ -24,9 +25,9 @@ pub record Picked (bound : ℕ) (test : ℕ → Bool) (before i : ℕ) : Type 0 
   pub passes : test i ≡ true
   pub rank : counted i test ≡ before
 
--- The damage of a state: which rows are sound, and how many are not.
+-- The damage of a state: how many rows are not sound, and, where they are at most four, which.
 pub record Gathered {X : Type 0} (F : Field X) (s : State X) (damage : Damage) : Type 0 where
-  pub rows : (row : ℕ) → row < k s + p s → flag damage.sound row ≡ sound F s row
+  pub rows : unsound-count F s ≤ 4 → (row : ℕ) → row < k s + p s → flag damage row ≡ sound F s row
   pub count : damage.count ≡ unsound-count F s
 
 -- over k data rows, and the rows that are sound

@@ -16,18 +16,17 @@ ghost use Rattle.mending.specs.Stored.{stored as stored-at};
 mod plans;
 mod solver;
 
-pub use plans::make_plan;
-
 use crate::plans::{picked, row_weights};
 use crate::solver::stored;
 use algebra::Field;
+pub use plans::make_plan;
 use rules::Sizes;
 use shelves::Shelf;
 
-// Which rows are sound, and how many are not.
-#[derive(Drop)]
+// The rows that are not sound, the lowest four of them, and how many there are in all.
+#[derive(Clone, Copy)]
 pub struct Damage {
-    sound: [bool; 68],
+    rows: [usize; 4],
     pub count: usize,
 }
 
@@ -39,34 +38,35 @@ pub struct Plan {
     weights: [[usize; 4]; 68],
 }
 
+// Whether a row is sound, where at most four rows are not.
 fn is_sound(damage: &Damage, row: usize) -> bool
-    ensures { result ≡ flag damage.now.sound row }
+    ensures { result ≡ flag damage.now row }
 {
-    match damage.sound.get(row) {
-        Some(sound) => *sound,
-        None => false,
+    for b in 0..damage.count.min(4) {
+        if damage.rows[b] == row {
+            return false;
+        }
     }
+    true
 }
 
-// Audits all rows: which are sound, and how many are not, however many.
+// Audits all rows, and gathers those that are not sound.
 pub fn gather<S: Shelf>(shelf: &S, sizes: Sizes) -> Damage
 where
     S::Symbol: Field,
     ensures { let F = S.Symbol.Field.algebra in let s = seen S.Symbol.Field.meaning sizes (S.Shelf.contents shelf.now) in fits F s ≡ true → Gathered F s result }
 {
-    let mut sound = [false; 68];
-    let mut unsound = 0;
-    for row in 0..sizes.data_rows.saturating_add(sizes.parity_rows).min(68) {
-        let here = rows::audit(shelf, sizes, row).is_sound();
-        sound[row] = here;
-        if !here {
-            unsound += 1;
+    let mut rows = [0; 4];
+    let mut count: usize = 0;
+    for row in 0..sizes.data_rows.saturating_add(sizes.parity_rows) {
+        if !rows::audit(shelf, sizes, row).is_sound() {
+            if count < 4 {
+                rows[count] = row;
+            }
+            count += 1;
         }
     }
-    Damage {
-        sound,
-        count: unsound,
-    }
+    Damage { rows, count }
 }
 
 // What rows with these weights make at a place. A row without weight is not read: it may be one that cannot be.
@@ -110,7 +110,7 @@ where
 
 // Whether parity row i, if it is sound, is one of those from which the lost data rows are worked.
 fn is_used(damage: &Damage, plan: &Plan, data_rows: usize, i: usize) -> bool
-    ensures { data_rows + i ≤ 68 → result ≡ nat_lt (counted i (λ h. flag damage.now.sound (data_rows + h))) plan.now.count }
+    ensures { data_rows + i ≤ 68 → result ≡ nat_lt (counted i (λ h. flag damage.now (data_rows + h))) plan.now.count }
 {
     picked(damage, data_rows, i, true).count < plan.count
 }
@@ -126,7 +126,7 @@ fn row_misfit<S: Shelf>(
 where
     S::Symbol: Field,
     ensures { let F = S.Symbol.Field.algebra in let s = seen S.Symbol.Field.meaning sizes (S.Shelf.contents shelf.now) in
-        fits F s ≡ true → unsound-count F s ≤ sizes.parity_rows → Gathered F s damage.now → Planned F sizes.data_rows sizes.parity_rows (flag damage.now.sound) plan.now
+        fits F s ≡ true → unsound-count F s ≤ sizes.parity_rows → Gathered F s damage.now → Planned F sizes.data_rows sizes.parity_rows (flag damage.now) plan.now
         → i < sizes.parity_rows → (blocks : ℕ → ℕ → Below S.Symbol.Field.size) → Worked F s blocks → result ≡ lowest sizes.block_length (worked-misfit F s blocks i) }
 {
     let row = sizes.data_rows.saturating_add(i);
@@ -152,7 +152,7 @@ pub fn first_worked_misfit<S: Shelf>(
 where
     S::Symbol: Field,
     ensures { let F = S.Symbol.Field.algebra in let s = seen S.Symbol.Field.meaning sizes (S.Shelf.contents shelf.now) in
-        fits F s ≡ true → unsound-count F s ≤ sizes.parity_rows → Gathered F s damage.now → Planned F sizes.data_rows sizes.parity_rows (flag damage.now.sound) plan.now
+        fits F s ≡ true → unsound-count F s ≤ sizes.parity_rows → Gathered F s damage.now → Planned F sizes.data_rows sizes.parity_rows (flag damage.now) plan.now
         → (blocks : ℕ → ℕ → Below S.Symbol.Field.size) → Worked F s blocks → result ≡ lowest-pair sizes.parity_rows sizes.block_length (worked-misfit F s blocks) }
 {
     for i in 0..sizes.parity_rows {
@@ -193,7 +193,7 @@ pub fn put_rows<S: Shelf>(shelf: &mut S, sizes: Sizes, damage: &Damage, plan: &P
 where
     S::Symbol: Field,
     ensures { let F = S.Symbol.Field.algebra in let meaning = S.Symbol.Field.meaning in let s = seen meaning sizes (S.Shelf.contents shelf.old) in
-        fits F s ≡ true → unsound-count F s ≤ sizes.parity_rows → Gathered F s damage.now → Planned F sizes.data_rows sizes.parity_rows (flag damage.now.sound) plan.now
+        fits F s ≡ true → unsound-count F s ≤ sizes.parity_rows → Gathered F s damage.now → Planned F sizes.data_rows sizes.parity_rows (flag damage.now) plan.now
         → (blocks : ℕ → ℕ → Below S.Symbol.Field.size) → Worked F s blocks → seen-contents meaning (S.Shelf.contents shelf.new) ≡ (with-cells s (mended-cells F s blocks)).contents }
 {
     for row in 0..sizes.data_rows.saturating_add(sizes.parity_rows) {

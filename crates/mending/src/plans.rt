@@ -21,8 +21,8 @@ pub(crate) struct Picks {
 
 // Of `bound` rows from `start` on, those that are sound, or those that are not.
 pub(crate) fn picked(damage: &Damage, start: usize, bound: usize, wanted: bool) -> Picks
-    ensures count { start + bound ≤ 68 → result.count ≡ counted bound (λ i. equally wanted (flag damage.now.sound (start + i))) }
-    ensures at { start + bound ≤ 68 → (b : ℕ) → b < 4 → b < result.count → Picked bound (λ i. equally wanted (flag damage.now.sound (start + i))) b (slice_index result.at b) }
+    ensures count { start + bound ≤ 68 → result.count ≡ counted bound (λ i. equally wanted (flag damage.now (start + i))) }
+    ensures at { start + bound ≤ 68 → (b : ℕ) → b < 4 → b < result.count → Picked bound (λ i. equally wanted (flag damage.now (start + i))) b (slice_index result.at b) }
 {
     let mut at = [0; 4];
     let mut count = 0;
@@ -50,7 +50,7 @@ fn column_points(columns: &[usize; 4]) -> [usize; 4]
 
 // What a row counts on the right-hand side of parity row i's equation for the lost symbols.
 fn share<F: Field>(damage: &Damage, data_rows: usize, i: usize, row: usize) -> F
-    ensures { data_rows ≤ 64 → data_rows + 4 ≤ F.Field.algebra.size → i < 4 → F.Field.meaning result ≡ share-of F.Field.algebra data_rows (flag damage.now.sound) i row }
+    ensures { data_rows ≤ 64 → data_rows + 4 ≤ F.Field.algebra.size → i < 4 → F.Field.meaning result ≡ share-of F.Field.algebra data_rows (flag damage.now) i row }
 {
     if row < data_rows {
         if is_sound(damage, row) {
@@ -67,7 +67,7 @@ fn share<F: Field>(damage: &Damage, data_rows: usize, i: usize, row: usize) -> F
 
 // The right-hand side that a row makes: its share in each used parity row's equation.
 fn shares<F: Field>(damage: &Damage, data_rows: usize, used: &[usize; 4], row: usize) -> [usize; 4]
-    ensures { data_rows ≤ 64 → data_rows + 4 ≤ F.Field.algebra.size → (a : ℕ) → a < 4 → slice_index used.now a < 4 → stored-at F.Field.algebra result a ≡ share-of F.Field.algebra data_rows (flag damage.now.sound) (slice_index used.now a) row }
+    ensures { data_rows ≤ 64 → data_rows + 4 ≤ F.Field.algebra.size → (a : ℕ) → a < 4 → slice_index used.now a < 4 → stored-at F.Field.algebra result a ≡ share-of F.Field.algebra data_rows (flag damage.now) (slice_index used.now a) row }
 {
     let mut right = [0; 4];
     for a in 0..4 {
@@ -86,7 +86,7 @@ fn working<F: Field>(
     row: usize,
 ) -> [usize; 4]
     ensures { data_rows ≤ 64 → lost.now.count ≤ 4 → Square F.Field.algebra data_rows lost.now.count (slice_index used.now) (slice_index lost.now.at)
-        → Solves F.Field.algebra lost.now.count (slice_index used.now) (slice_index lost.now.at) (λ a. share-of F.Field.algebra data_rows (flag damage.now.sound) (slice_index used.now a) row) (stored-at F.Field.algebra result) }
+        → Solves F.Field.algebra lost.now.count (slice_index used.now) (slice_index lost.now.at) (λ a. share-of F.Field.algebra data_rows (flag damage.now) (slice_index used.now a) row) (stored-at F.Field.algebra result) }
 {
     let columns = column_points(&lost.at);
     let right = shares::<F>(damage, data_rows, used, row);
@@ -101,7 +101,7 @@ fn all_weights<F: Field>(
     lost: &Picks,
 ) -> [[usize; 4]; 68]
     ensures { data_rows ≤ 64 → lost.now.count ≤ 4 → Square F.Field.algebra data_rows lost.now.count (slice_index used.now) (slice_index lost.now.at)
-        → (row : ℕ) → row < 68 → Solves F.Field.algebra lost.now.count (slice_index used.now) (slice_index lost.now.at) (λ a. share-of F.Field.algebra data_rows (flag damage.now.sound) (slice_index used.now a) row) (weight-in F.Field.algebra result row) }
+        → (row : ℕ) → row < 68 → Solves F.Field.algebra lost.now.count (slice_index used.now) (slice_index lost.now.at) (λ a. share-of F.Field.algebra data_rows (flag damage.now) (slice_index used.now a) row) (weight-in F.Field.algebra result row) }
 {
     let mut weights = [[0; 4]; 68];
     for row in 0..68 {
@@ -114,8 +114,8 @@ fn all_weights<F: Field>(
 // How the lost data rows follow from the sound ones and from as many parity rows, the lowest that are sound.
 pub fn make_plan<F: Field>(sizes: Sizes, damage: &Damage) -> Plan
     ensures { sizes.data_rows ≤ 64 → sizes.parity_rows ≤ 4 → sizes.data_rows + 4 ≤ F.Field.algebra.size
-        → counted sizes.data_rows (λ j. not (flag damage.now.sound j)) ≤ counted sizes.parity_rows (λ i. flag damage.now.sound (sizes.data_rows + i))
-        → Planned F.Field.algebra sizes.data_rows sizes.parity_rows (flag damage.now.sound) result }
+        → counted sizes.data_rows (λ j. not (flag damage.now j)) ≤ counted sizes.parity_rows (λ i. flag damage.now (sizes.data_rows + i))
+        → Planned F.Field.algebra sizes.data_rows sizes.parity_rows (flag damage.now) result }
 {
     let lost = picked(damage, 0, sizes.data_rows, false);
     let used = picked(damage, sizes.data_rows, sizes.parity_rows, true);
@@ -165,7 +165,7 @@ fn through_lost<F: Field>(plan: &Plan, i: usize, row: usize) -> F
 // The weight of a row in parity row i, worked from the data rows: its own coefficient, and its part in the lost data rows.
 fn parity_weight<F: Field>(sizes: Sizes, damage: &Damage, plan: &Plan, i: usize, row: usize) -> F
     ensures { sizes.data_rows ≤ 64 → sizes.data_rows + 4 ≤ F.Field.algebra.size → i < 4 → plan.now.count ≤ 4 → ((b : ℕ) → b < plan.now.count → slice_index plan.now.lost b < sizes.data_rows)
-        → F.Field.meaning result ≡ weight-of F.Field.algebra sizes.data_rows (flag damage.now.sound) plan.now (sizes.data_rows + i) row }
+        → F.Field.meaning result ≡ weight-of F.Field.algebra sizes.data_rows (flag damage.now) plan.now (sizes.data_rows + i) row }
 {
     let through: F = through_lost(plan, i, row);
     if row < sizes.data_rows && is_sound(damage, row) {
@@ -178,7 +178,7 @@ fn parity_weight<F: Field>(sizes: Sizes, damage: &Damage, plan: &Plan, i: usize,
 // The weights of all rows in parity row i, worked from the data rows.
 fn parity_weights<F: Field>(sizes: Sizes, damage: &Damage, plan: &Plan, i: usize) -> [usize; 68]
     ensures { sizes.data_rows ≤ 64 → sizes.data_rows + 4 ≤ F.Field.algebra.size → i < 4 → plan.now.count ≤ 4 → ((b : ℕ) → b < plan.now.count → slice_index plan.now.lost b < sizes.data_rows)
-        → (row : ℕ) → row < 68 → stored-at F.Field.algebra result row ≡ weight-of F.Field.algebra sizes.data_rows (flag damage.now.sound) plan.now (sizes.data_rows + i) row }
+        → (row : ℕ) → row < 68 → stored-at F.Field.algebra result row ≡ weight-of F.Field.algebra sizes.data_rows (flag damage.now) plan.now (sizes.data_rows + i) row }
 {
     let mut weights = [0; 68];
     for row in 0..68 {
@@ -189,10 +189,15 @@ fn parity_weights<F: Field>(sizes: Sizes, damage: &Damage, plan: &Plan, i: usize
 }
 
 // The weights of all rows in a lost data row, or in a parity row.
-pub(crate) fn row_weights<F: Field>(sizes: Sizes, damage: &Damage, plan: &Plan, row: usize) -> [usize; 68]
+pub(crate) fn row_weights<F: Field>(
+    sizes: Sizes,
+    damage: &Damage,
+    plan: &Plan,
+    row: usize,
+) -> [usize; 68]
     ensures { sizes.data_rows ≤ 64 → sizes.parity_rows ≤ 4 → sizes.data_rows + 4 ≤ F.Field.algebra.size → row < sizes.data_rows + sizes.parity_rows
         → plan.now.count ≤ 4 → ((b : ℕ) → b < plan.now.count → slice_index plan.now.lost b < sizes.data_rows)
-        → (source : ℕ) → source < 68 → stored-at F.Field.algebra result source ≡ weight-of F.Field.algebra sizes.data_rows (flag damage.now.sound) plan.now row source }
+        → (source : ℕ) → source < 68 → stored-at F.Field.algebra result source ≡ weight-of F.Field.algebra sizes.data_rows (flag damage.now) plan.now row source }
 {
     if row < sizes.data_rows {
         lost_weights::<F>(plan, picked(damage, 0, row, false).count)

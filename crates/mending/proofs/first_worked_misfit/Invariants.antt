@@ -10,5 +10,5 @@ abbrev pub invariant-loop-i : goal.invariant-loop-i
 invariant-loop-i g l =
     let F = g.S.Symbol.Field.algebra in
     let s = seen g.S.Symbol.Field.meaning l.sizes (g.S.Shelf.contents l.shelf) in
-    fits F s ≡ true → unsound-count F s ≤ l.sizes.parity_rows → Gathered F s l.damage → Planned F l.sizes.data_rows l.sizes.parity_rows (flag l.damage.sound) l.plan
+    fits F s ≡ true → unsound-count F s ≤ l.sizes.parity_rows → Gathered F s l.damage → Planned F l.sizes.data_rows l.sizes.parity_rows (flag l.damage) l.plan
     → (blocks : ℕ → ℕ → Below g.S.Symbol.Field.size) → Worked F s blocks → (i t : ℕ) → i < l.i → t < l.sizes.block_length → worked-misfit F s blocks i t ≡ false

@@ -1,35 +1,47 @@
-use Rattle.std.proofs.Common.{ℕ, ◌+◌, ◌<◌, ◌≤◌, ◌≢◌, false, cond, not, length, sym, ap, ◌∙◌, arith, length-set, get_or-set_other, get_or-set_same, below_more, add-one, add-zero}
+use Rattle.std.proofs.Common.{◌+◌, length, sym, ap, ◌∙◌, subst₂, arith, length-set}
 use Rattle.rules.specs.Calls.{is-sound}
-use Rattle.rules.specs.Search.{counted}
 use Rattle.rules.specs.States.{sound}
 use Rattle.rules.specs.Views.{seen}
+use Rattle.rules.proofs.Rows.{fitting}
+use Rattle.mending.proofs.Gathering.{Listed, listed-sound, listed-unsound, listed-past, listed-all}
 use Rattle.mending.proofs.gather.Goals as goal
-use Rattle.mending.proofs.gather.Goals.{then-not-here, else-not-here}
+use Rattle.mending.proofs.gather.Goals.{then-not-is_sound, then-count-lt4, else-count-lt4, else-not-is_sound}
 
 pub loop-row-preserved : goal.loop-row-preserved
 loop-row-preserved g c =
     let F = g.S.Symbol.Field.algebra in
     let s = seen g.S.Symbol.Field.meaning c.args.sizes (g.S.Shelf.contents c.args.shelf.now) in
     let row = c.loop-row.row in
-    let flags = c.loop-row.sound in
-    let here = c.is_sound-here.result in
-    let inside : row < length flags = omega (arith, c.loop-row.invariant.length-kept) in record {
-      length-kept = length-set flags row here ∙ c.loop-row.invariant.length-kept;
-      within = elim c.if-not-here.branch as (λ b. c.if-not-here.unsound ≤ c.loop-row.row + 1) [ then-not-here w ↦ omega (arith, w.unsound-is, c.loop-row.invariant.within) | else-not-here w ↦ omega (arith, w.unsound-is, c.loop-row.invariant.within) ];
-      rows = λ fit.
-          below_more _ row
-          (λ r h. let ne : r ≢ row = omega arith in get_or-set_other flags row r here false ne ∙ c.loop-row.invariant.rows fit r h)
-          (get_or-set_same flags row here false inside ∙ c.is_sound-here.ensures ∙ ap is-sound (c.audit.ensures fit));
-      counts = λ fit.
-          let says = c.is_sound-here.ensures ∙ ap is-sound (c.audit.ensures fit) in
-          elim c.if-not-here.branch [
-            | then-not-here w ↦
-                w.unsound-is ∙ ap (λ (v : ℕ). v + 1) (c.loop-row.invariant.counts fit)
-                ∙ ap (λ b. counted row (λ r. not (sound F s r)) + cond (not b) 1 0) (sym (sym says ∙ w.if-not-here.true))
-                ∙ ap (λ v. counted v (λ r. not (sound F s r))) (sym (add-one row))
-            | else-not-here w ↦
-                w.unsound-is ∙ c.loop-row.invariant.counts fit ∙ sym (add-zero (counted row (λ r. not (sound F s r))))
-                ∙ ap (λ b. counted row (λ r. not (sound F s r)) + cond (not b) 1 0) (sym (sym says ∙ w.if-not-here.false))
-                ∙ ap (λ v. counted v (λ r. not (sound F s r))) (sym (add-one row))
-          ];
-    }
+    let inv = c.loop-row.invariant in
+    elim c.if-not-is_sound.branch [
+      | then-not-is_sound w ↦ elim w.if-count-lt4.branch [
+        | then-count-lt4 v ↦ record {
+          length-kept = ap length (w.rows-is ∙ v.rows-is) ∙ length-set c.loop-row.rows c.loop-row.count row ∙ inv.length-kept;
+          within = omega (arith, w.count-is);
+          listed = λ fit.
+              subst₂ (Listed (sound F s) (row + 1)) (sym (w.rows-is ∙ v.rows-is)) (sym w.count-is)
+              (listed-unsound (sound F s) row c.loop-row.rows c.loop-row.count (inv.listed fit) (ap is-sound (sym (c.audit.ensures fit)) ∙ sym c.is_sound.ensures ∙ w.if-not-is_sound.true) (omega (arith, v.if-count-lt4.true, inv.length-kept)));
+        }
+        | else-count-lt4 v ↦ record {
+          length-kept = ap length (w.rows-is ∙ v.rows-is) ∙ inv.length-kept;
+          within = omega (arith, w.count-is);
+          listed = λ fit.
+              subst₂ (Listed (sound F s) (row + 1)) (sym (w.rows-is ∙ v.rows-is)) (sym w.count-is)
+              (listed-past (sound F s) row c.loop-row.rows c.loop-row.count (inv.listed fit) (ap is-sound (sym (c.audit.ensures fit)) ∙ sym c.is_sound.ensures ∙ w.if-not-is_sound.true) v.if-count-lt4.false);
+        }
+      ]
+      | else-not-is_sound w ↦ record {
+        length-kept = ap length w.rows-is ∙ inv.length-kept;
+        within = omega (arith, w.count-is);
+        listed = λ fit.
+            subst₂ (Listed (sound F s) (row + 1)) (sym w.rows-is) (sym w.count-is)
+            (listed-sound (sound F s) row c.loop-row.rows c.loop-row.count (inv.listed fit) (ap is-sound (sym (c.audit.ensures fit)) ∙ sym c.is_sound.ensures ∙ w.if-not-is_sound.false));
+      }
+    ]
+
+pub returns : goal.returns
+returns g c fit =
+    let F = g.S.Symbol.Field.algebra in
+    let s = seen g.S.Symbol.Field.meaning c.args.sizes (g.S.Shelf.contents c.args.shelf.now) in
+    let f = fitting F s fit in
+    listed-all F s _ c.loop-row.row (omega (arith, c.saturating_add-row-end.ensures, f.k-high, f.p-high)) (c.loop-row.invariant.listed fit)

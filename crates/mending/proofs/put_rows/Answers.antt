@@ -20,7 +20,7 @@ loop-row-preserved g c fit few gathered planned blocks w =
     let f = fitting F s fit in
     let h : c.loop-row.row < sizes.data_rows + sizes.parity_rows = omega (arith, c.saturating_add-row-end.ensures) in
     let held = c.loop-row.invariant fit few gathered planned blocks w in
-    let says = sym (gathered.rows c.loop-row.row h) ∙ sym c.is_sound.ensures in
+    let says = sym (gathered.rows (omega (arith, few, f.p-high)) c.loop-row.row h) ∙ sym c.is_sound.ensures in
     elim c.if-not-is_sound.branch [
       | then-not-is_sound v ↦
           subst (λ x. Holds F meaning sizes before (mended-below F meaning sizes blocks before (c.loop-row.row + 1)) (g.S.Shelf.contents x)) (sym v.shelf-is)

@@ -14,5 +14,5 @@ invariant-loop-row g l =
     let meaning = g.S.Symbol.Field.meaning in
     let before = g.S.Shelf.contents l.initial.shelf in
     let s = seen meaning l.sizes before in
-    fits F s ≡ true → unsound-count F s ≤ l.sizes.parity_rows → Gathered F s l.damage → Planned F l.sizes.data_rows l.sizes.parity_rows (flag l.damage.sound) l.plan
+    fits F s ≡ true → unsound-count F s ≤ l.sizes.parity_rows → Gathered F s l.damage → Planned F l.sizes.data_rows l.sizes.parity_rows (flag l.damage) l.plan
     → (blocks : ℕ → ℕ → Below g.S.Symbol.Field.size) → Worked F s blocks → Holds F meaning l.sizes before (mended-below F meaning l.sizes blocks before l.row) (g.S.Shelf.contents l.shelf)

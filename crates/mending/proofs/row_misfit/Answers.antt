@@ -17,7 +17,7 @@ returns-then-not-is_sound g c fit few gathered planned h blocks w =
     let f = fitting F s fit in
     let at : c.saturating_add-row.result ≡ c.args.sizes.data_rows + c.args.i = omega (arith, c.saturating_add-row.ensures, f.k-high, f.p-high, h) in
     let off : sound F s (c.args.sizes.data_rows + c.args.i) ≡ false =
-    sym (gathered.rows (c.args.sizes.data_rows + c.args.i) (omega arith)) ∙ ap (flag c.args.damage.now.sound) (sym at) ∙ sym c.is_sound.ensures ∙ c.if-not-is_sound.true in
+    sym (gathered.rows (omega (arith, few, f.p-high)) (c.args.sizes.data_rows + c.args.i) (omega arith)) ∙ ap (flag c.args.damage.now) (sym at) ∙ sym c.is_sound.ensures ∙ c.if-not-is_sound.true in
     sym (misfit_none F s fit few c.args.damage.now gathered c.args.plan.now planned blocks w c.args.i off)
 
 pub returns-then-is_used : goal.returns-then-is_used
@@ -27,7 +27,7 @@ returns-then-is_used g c fit few gathered planned h blocks w =
     let f = fitting F s fit in
     let at : c.saturating_add-row.result ≡ c.args.sizes.data_rows + c.args.i = omega (arith, c.saturating_add-row.ensures, f.k-high, f.p-high, h) in
     let on : sound F s (c.args.sizes.data_rows + c.args.i) ≡ true =
-    sym (gathered.rows (c.args.sizes.data_rows + c.args.i) (omega arith)) ∙ ap (flag c.args.damage.now.sound) (sym at) ∙ sym c.is_sound.ensures ∙ c.if-not-is_sound.false in
+    sym (gathered.rows (omega (arith, few, f.p-high)) (c.args.sizes.data_rows + c.args.i) (omega arith)) ∙ ap (flag c.args.damage.now) (sym at) ∙ sym c.is_sound.ensures ∙ c.if-not-is_sound.false in
     sym (misfit_used F s fit few c.args.damage.now gathered c.args.plan.now planned blocks w c.args.i h on (sym (c.is_used.ensures (omega (arith, f.k-high, f.p-high))) ∙ c.if-is_used.true))
 
 pub returns : goal.returns
@@ -41,11 +41,11 @@ returns g c fit few gathered planned h blocks w =
     let at : c.saturating_add-row.result ≡ c.args.sizes.data_rows + c.args.i = omega (arith, c.saturating_add-row.ensures, f.k-high, f.p-high, h) in
     let all : c.saturating_add-rows.result ≡ c.args.sizes.data_rows + c.args.sizes.parity_rows = omega (arith, c.saturating_add-rows.ensures, f.k-high, f.p-high) in
     let on : sound F s (c.args.sizes.data_rows + c.args.i) ≡ true =
-    sym (gathered.rows (c.args.sizes.data_rows + c.args.i) (omega arith)) ∙ ap (flag c.args.damage.now.sound) (sym at) ∙ sym c.is_sound.ensures ∙ c.if-not-is_sound.false in
+    sym (gathered.rows (omega (arith, few, f.p-high)) (c.args.sizes.data_rows + c.args.i) (omega arith)) ∙ ap (flag c.args.damage.now) (sym at) ∙ sym c.is_sound.ensures ∙ c.if-not-is_sound.false in
     c.first_difference.ensures
     ∙ ap₂ (λ (rows row : ℕ). lowest c.args.sizes.block_length (λ place. differ F (weighted-sum F meaning held weights rows place) (element-at F meaning held row place))) all at
     ∙ misfit_found F s fit few c.args.damage.now gathered c.args.plan.now planned blocks w c.args.i h on weights
     (λ source o.
     c.row_weights-weights.ensures f.k-high f.p-high f.enough (omega arith) (few-lost F s fit few c.args.damage.now gathered c.args.plan.now planned) (λ b l. (planned.picks b l).below) source
     (omega (arith, f.k-high, f.p-high))
-    ∙ ap (λ (r : ℕ). weight-of F c.args.sizes.data_rows (flag c.args.damage.now.sound) c.args.plan.now r source) at)
+    ∙ ap (λ (r : ℕ). weight-of F c.args.sizes.data_rows (flag c.args.damage.now) c.args.plan.now r source) at)

@@ -10,4 +10,4 @@ invariant-loop-row g l =
     let lost : ℕ → ℕ = λ b. get_or l.lost.at b 0 in
     (length l.weights ≡ 68)
     × (l.data_rows ≤ 64 → l.lost.count ≤ 4 → Square F l.data_rows l.lost.count used lost → (row : ℕ) → row < l.row
-    → Solves F l.lost.count used lost (λ a. share F l.data_rows (flag l.damage.sound) (used a) row) (weight-in F l.weights row))
+    → Solves F l.lost.count used lost (λ a. share F l.data_rows (flag l.damage) (used a) row) (weight-in F l.weights row))

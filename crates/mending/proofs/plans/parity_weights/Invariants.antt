@@ -8,4 +8,4 @@ invariant-loop-row g l =
     let F = g.F.Field.algebra in
     (length l.weights ≡ 68)
     × (l.sizes.data_rows ≤ 64 → l.sizes.data_rows + 4 ≤ F.size → l.i < 4 → l.plan.count ≤ 4 → ((b : ℕ) → b < l.plan.count → get_or l.plan.lost b 0 < l.sizes.data_rows)
-    → (row : ℕ) → row < l.row → stored F l.weights row ≡ weight-of F l.sizes.data_rows (flag l.damage.sound) l.plan (l.sizes.data_rows + l.i) row)
+    → (row : ℕ) → row < l.row → stored F l.weights row ≡ weight-of F l.sizes.data_rows (flag l.damage) l.plan (l.sizes.data_rows + l.i) row)

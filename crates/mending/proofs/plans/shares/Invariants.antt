@@ -8,4 +8,4 @@ invariant-loop-a g l =
     let F = g.F.Field.algebra in
     (length l.right ≡ 4)
     × (l.data_rows ≤ 64 → l.data_rows + 4 ≤ F.size → (a : ℕ) → a < l.a → get_or l.used a 0 < 4
-    → stored F l.right a ≡ share F l.data_rows (flag l.damage.sound) (get_or l.used a 0) l.row)
+    → stored F l.right a ≡ share F l.data_rows (flag l.damage) (get_or l.used a 0) l.row)

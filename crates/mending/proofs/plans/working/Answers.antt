@@ -11,7 +11,7 @@ returns g c few four square =
     let used : ℕ → ℕ = λ a. get_or c.args.used.now a 0 in
     let lost : ℕ → ℕ = λ b. get_or c.args.lost.now.at b 0 in
     solved-by F c.args.data_rows c.args.lost.now.count used lost square (stored F c.args.used.now) (stored F c.column_points-columns.result) (stored F c.shares-right.result)
-    (λ a. share F c.args.data_rows (flag c.args.damage.now.sound) (used a) c.args.row) (stored F c.solution.result)
+    (λ a. share F c.args.data_rows (flag c.args.damage.now) (used a) c.args.row) (stored F c.solution.result)
     (λ i h. element-small F (used i) (omega (arith, square.rows-below i h, square.room)))
     (λ j h. ap (element-of F) (c.column_points-columns.ensures j (omega arith) (omega (arith, square.columns-below j h)))
     ∙ element-small F (4 + lost j) (omega (arith, square.columns-below j h, square.room)))
