@@ -1,4 +1,4 @@
-// Code that reads a shelf: cards, parity combinations, and the first place where something is wrong.
+// Code over a shelf: card components, parity combinations, the first place where something is wrong, audits and spans; and the putting of cards.
 #![tactic(auto)]
 
 ghost use Rattle.std.specs.Prelude.{◌≡◌, ℕ, ◌+◌, ◌^◌, ◌<◌, ◌≤◌, true, not, length, map};

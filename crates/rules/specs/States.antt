@@ -13,6 +13,7 @@ use Rattle.rules.specs.declared.Sizes.{Sizes}
 use Rattle.rules.specs.declared.Verdict.{Verdict}
 use Rattle.rules.specs.declared.Verdict.TheVariants.{Sound, Hole, Card}
 
+-- What a promise speaks of: all that a tray holds. A tray is a redundancy group: data rows, and parity rows worked from them.
 pub record State (X : Type 0) : Type 0 where
   pub sizes : Sizes
   pub contents : Contents X
@@ -20,6 +21,7 @@ pub record State (X : Type 0) : Type 0 where
   pub round : Round
   pub sheet : Sheet
 
+-- a sheet, the results of a scrub pass, on which nothing is read yet
 abbrev pub unread : Sheet
 unread = record { records = replicate 68 (record { entry = Unread }) }
 
@@ -61,6 +63,7 @@ module _ {X : Type 0} (s : State X) where
     sheet = s.sheet;
   }
 
+-- the symbol of a cell, and another in place of a hole
 abbrev pub symbol-or : {X : Type 0} → X → Cell X → X
 symbol-or d (symbol x) = x
 symbol-or d hole = d

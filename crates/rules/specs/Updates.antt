@@ -13,7 +13,7 @@ use Rattle.rules.specs.declared.Entry.TheVariants.{Unread, Read}
 use Rattle.rules.specs.declared.Round.{Round}
 use Rattle.rules.specs.declared.Round.TheVariants.{Resting, Walking, Over}
 
--- the round
+-- the round, a scrub pass over the rows
 abbrev pub walking : Round → Bool
 walking Resting = false
 walking (Walking row) = true
@@ -24,7 +24,7 @@ over Resting = false
 over (Walking row) = false
 over Over = true
 
--- the sheet's entries
+-- the entries of the sheet, which has the results of a scrub pass: sound, and read but not sound
 abbrev pub entry-sound : Entry → Bool
 entry-sound Unread = false
 entry-sound (Read v) = is-sound v
@@ -42,6 +42,7 @@ module _ {X : Type 0} (s : State X) where
   abbrev pub next-round : ℕ → Round
   next-round row = cond (nat_lt (row + 1) (k s + p s)) (Walking (row + 1)) Over
 
+  -- what the sheet says of a row
   abbrev pub entry_of : ℕ → Entry
   entry_of row = (slice_index_or s.sheet.records row (record { entry = Unread })).entry
 
@@ -62,6 +63,7 @@ module _ {X : Type 0} (F : Field X) (s : State X) where
       (symbol (component F (n s) (symbol-at F s row) (place - n s)))
       (cell s row place)
 
+  -- a symbol with d added; a hole stays one
   abbrev pub grow : X → Cell X → Cell X
   grow d (symbol x) = symbol (F.add x d)
   grow d hole = hole

@@ -62,6 +62,7 @@ pub enum Entry {
     Read(Verdict),
 }
 
+// The result of a scrub pass for one row.
 #[derive(Clone, Copy, PartialEq, Eq, Debug)]
 pub struct Record {
     pub entry: Entry,
