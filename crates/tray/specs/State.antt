@@ -19,6 +19,16 @@ state contents meaning t = record {
   sheet = t.sheet;
 }
 
+-- the same tray over other contents
+abbrev pub on-contents : {A : Type 0} → State A → Contents A → State A
+on-contents s contents = record {
+  sizes = s.sizes;
+  contents = contents;
+  taken_in = s.taken_in;
+  round = s.round;
+  sheet = s.sheet;
+}
+
 -- what a result answers: an accepted call what it returns, as an answer, and a refused one its refusal
 abbrev pub answer-by : {A T : Type 0} → (T → Answer A) → Result T Refusal → Answer A
 answer-by answer (Ok x) = answer x

@@ -1,0 +1,153 @@
+// A bench: a tray over a shelf that can be taken out, damaged and put back between calls.
+use algebra::Field;
+use own_shelf::OwnShelf;
+use rules::{Refusal, Sizes};
+use shelves::{Got, Shelf};
+use std::alloc::{AllocError, Global};
+use tray::Tray;
+
+#[derive(Drop)]
+pub struct Bench<F: Field> {
+    pub tray: Tray<OwnShelf<F>>,
+    pub sizes: Sizes,
+    pub heap: Global,
+}
+
+// What happens to a row while no call runs.
+#[derive(Clone, Copy)]
+pub enum Damage {
+    // A hole at a place.
+    Hole(usize),
+    // One is added to so many symbols, from a place on.
+    Wrong(usize, usize),
+    // The symbol of a number is put at a place, by another hand than the tray's.
+    Put(usize, usize),
+}
+
+pub fn element<F: Field>(number: usize) -> F {
+    match F::numbered(number) {
+        Some(element) => element,
+        None => F::zero(),
+    }
+}
+
+fn add_one<F: Field>(shelf: &mut OwnShelf<F>, row: usize, place: usize) {
+    if let Got::Symbol(symbol) = shelf.get(row, place) {
+        let _ = shelf.put(row, place, symbol.sum(F::one()));
+    }
+}
+
+fn damage_shelf<F: Field>(shelf: &mut OwnShelf<F>, row: usize, damage: Damage) {
+    match damage {
+        Damage::Hole(place) => shelf.lose(row, place),
+        Damage::Wrong(start, count) => {
+            for place in start..start.saturating_add(count) {
+                add_one(shelf, row, place);
+            }
+        }
+        Damage::Put(place, number) => {
+            let _ = shelf.put(row, place, element(number));
+        }
+    }
+}
+
+impl<F: Field> Bench<F> {
+    // A tray of these sizes over a shelf where every place is a hole, but for the blocks.
+    pub fn with_blocks(
+        heap: Global,
+        sizes: Sizes,
+        blocks: &[&[usize]],
+    ) -> Result<Bench<F>, AllocError> {
+        let rows = sizes.data_rows.saturating_add(sizes.parity_rows);
+        let places = sizes.block_length.saturating_add(sizes.card_length);
+        let symbols = vec![in heap; F::zero(); rows.saturating_mul(places)]?;
+        let marks = vec![in heap; 0; rows.saturating_mul(places)]?;
+        let mut shelf = OwnShelf::over(rows, places, symbols, marks);
+        for (row, block) in blocks.iter().enumerate() {
+            for (place, number) in block.iter().enumerate() {
+                let _ = shelf.put(row, place, element(*number));
+            }
+        }
+        let tray = Tray::over(shelf, sizes);
+        Ok(Bench { tray, sizes, heap })
+    }
+
+    pub fn rows(&self) -> usize {
+        self.sizes.data_rows.saturating_add(self.sizes.parity_rows)
+    }
+
+    pub fn write(
+        &mut self,
+        row: usize,
+        start: usize,
+        numbers: &[usize],
+    ) -> Result<Result<(), Refusal>, AllocError> {
+        let mut symbols = Vec::new(self.heap);
+        for number in numbers {
+            symbols.push(element(*number))?;
+        }
+        Ok(self.tray.write(row, start, &symbols))
+    }
+
+    // Takes the shelf out of the tray, which meanwhile has one of no rows.
+    pub fn take_shelf(&mut self) -> OwnShelf<F> {
+        let none = OwnShelf::over(0, 0, Vec::new(self.heap), Vec::new(self.heap));
+        self.tray.replace_shelf(none)
+    }
+
+    pub fn put_back(&mut self, shelf: OwnShelf<F>) {
+        let _ = self.tray.replace_shelf(shelf);
+    }
+
+    pub fn damage(&mut self, row: usize, damage: Damage) {
+        let mut shelf = self.take_shelf();
+        damage_shelf(&mut shelf, row, damage);
+        self.put_back(shelf);
+    }
+
+    // The numbers of a row's symbols; none where there is a hole.
+    pub fn row(&mut self, row: usize) -> Result<Vec<Option<usize>>, AllocError> {
+        let mut numbers = Vec::new(self.heap);
+        let shelf = self.take_shelf();
+        for place in 0..shelf.places() {
+            numbers.push(number_at(&shelf, row, place))?;
+        }
+        self.put_back(shelf);
+        Ok(numbers)
+    }
+
+    // The numbers of all symbols, row after row.
+    pub fn all(&mut self) -> Result<Vec<Option<usize>>, AllocError> {
+        let mut all = Vec::new(self.heap);
+        for row in 0..self.rows() {
+            for number in &self.row(row)? {
+                all.push(*number)?;
+            }
+        }
+        Ok(all)
+    }
+
+    // Whether all symbols have these numbers.
+    pub fn is_as(&mut self, before: &[Option<usize>]) -> Result<bool, AllocError> {
+        let now = self.all()?;
+        Ok(now.as_slice() == before)
+    }
+
+    // Puts a row as it was, from the numbers of all symbols.
+    pub fn restore(&mut self, row: usize, all: &[Option<usize>]) {
+        let places = self.sizes.block_length.saturating_add(self.sizes.card_length);
+        for place in 0..places {
+            let at = row.saturating_mul(places).saturating_add(place);
+            if let Some(Some(number)) = all.get(at) {
+                self.damage(row, Damage::Put(place, *number));
+            }
+        }
+    }
+}
+
+fn number_at<F: Field>(shelf: &OwnShelf<F>, row: usize, place: usize) -> Option<usize> {
+    match shelf.get(row, place) {
+        Got::Symbol(symbol) => Some(symbol.number()),
+        Got::Hole | Got::Outside => None,
+    }
+}

@@ -1,0 +1,133 @@
+// The stages of a tray's life.
+use crate::bench::{Bench, Damage};
+use crate::tell;
+use algebra::Field;
+
+pub fn take_in<F: Field>(rt: &HostRuntime, bench: &mut Bench<F>) -> anyhow::Result<()> {
+    tell::done(rt, "begin", bench.tray.begin())?;
+    tell::done(rt, "intake", bench.tray.intake())?;
+    tell::shelf(rt, bench)?;
+    tell::done(rt, "intake", bench.tray.intake())
+}
+
+pub fn write<F: Field>(
+    rt: &HostRuntime,
+    bench: &mut Bench<F>,
+    row: usize,
+    start: usize,
+    numbers: &[usize],
+) -> anyhow::Result<()> {
+    tell::numbers(rt, "written to", row, numbers)?;
+    tell::done(rt, "write", bench.write(row, start, numbers)?)
+}
+
+// A full round, with what it found.
+pub fn round<F: Field>(rt: &HostRuntime, bench: &mut Bench<F>) -> anyhow::Result<()> {
+    tell::done(rt, "begin", bench.tray.begin())?;
+    for row in 0..bench.rows() {
+        tell::done(rt, "begin", bench.tray.begin())?;
+        tell::verdict(rt, "step at", row, bench.tray.step())?;
+    }
+    tell::verdict(rt, "step at", bench.rows(), bench.tray.step())?;
+    tell::totals(rt, bench)?;
+    tell::first(rt, bench)
+}
+
+fn compare<F: Field>(
+    rt: &HostRuntime,
+    bench: &mut Bench<F>,
+    before: &[Option<usize>],
+) -> anyhow::Result<()> {
+    if bench.is_as(before)? {
+        println!(rt; "all rows are as before")?;
+    } else {
+        println!(rt; "not all rows are as before")?;
+        tell::shelf(rt, bench)?;
+    }
+    Ok(())
+}
+
+// Damages one row, asks every call that looks at it, and mends. A write of no symbols changes nothing, but it audits.
+fn suffer<F: Field>(
+    rt: &HostRuntime,
+    bench: &mut Bench<F>,
+    row: usize,
+    damage: Damage,
+) -> anyhow::Result<()> {
+    let before = bench.all()?;
+    bench.damage(row, damage);
+    tell::verdict(rt, "audit of", row, bench.tray.audit(row))?;
+    tell::read(rt, bench, row)?;
+    tell::done(rt, "write of no symbols to row 0", bench.write(0, 0, &[])?)?;
+    tell::done(rt, "cross", bench.tray.cross())?;
+    tell::counted(rt, "mend", bench.tray.mend())?;
+    compare(rt, bench, &before)
+}
+
+// One row at a time, damaged in each way.
+pub fn each_damage<F: Field>(rt: &HostRuntime, bench: &mut Bench<F>) -> anyhow::Result<()> {
+    let n = bench.sizes.block_length;
+    let k = bench.sizes.data_rows;
+    println!(rt; "a hole in a block")?;
+    suffer(rt, bench, 0, Damage::Hole(1))?;
+    println!(rt; "a hole in a card")?;
+    suffer(rt, bench, 1, Damage::Hole(n))?;
+    println!(rt; "a wrong card component")?;
+    suffer(rt, bench, k, Damage::Wrong(n.saturating_add(1), 1))?;
+    for count in 1..=bench.sizes.card_length {
+        println!(rt; "{count} wrong symbols in a block")?;
+        suffer(rt, bench, count % 2, Damage::Wrong(0, count))?;
+    }
+    Ok(())
+}
+
+// A round finds two damaged rows. They are mended, and only the next round forgets them.
+pub fn found_by_a_round<F: Field>(rt: &HostRuntime, bench: &mut Bench<F>) -> anyhow::Result<()> {
+    println!(rt; "a hole and a wrong symbol, and a round")?;
+    let before = bench.all()?;
+    let parity = bench.sizes.data_rows;
+    bench.damage(1, Damage::Hole(0));
+    bench.damage(parity, Damage::Wrong(1, 1));
+    round(rt, bench)?;
+    tell::counted(rt, "mend", bench.tray.mend())?;
+    compare(rt, bench, &before)?;
+    tell::record(rt, bench, 0)?;
+    tell::record(rt, bench, 1)?;
+    tell::first(rt, bench)?;
+    tell::counted(rt, "mend", bench.tray.mend())?;
+    round(rt, bench)
+}
+
+// One damaged row more than there are parity rows; then one of them comes back.
+pub fn too_many<F: Field>(rt: &HostRuntime, bench: &mut Bench<F>) -> anyhow::Result<()> {
+    println!(rt; "one damaged row too many")?;
+    let before = bench.all()?;
+    for row in 0..=bench.sizes.parity_rows {
+        bench.damage(row, Damage::Hole(row % 2));
+    }
+    tell::counted(rt, "mend", bench.tray.mend())?;
+    tell::shelf(rt, bench)?;
+    bench.restore(0, &before);
+    tell::counted(rt, "mend", bench.tray.mend())?;
+    compare(rt, bench, &before)
+}
+
+// Row 0 holds what row 1 holds. It is sound, and parity does not fit; beside a lost row too.
+pub fn stale_row<F: Field>(rt: &HostRuntime, bench: &mut Bench<F>) -> anyhow::Result<()> {
+    println!(rt; "row 0 holds what row 1 holds")?;
+    let before = bench.all()?;
+    for (place, number) in bench.row(1)?.iter().enumerate() {
+        if let Some(number) = number {
+            bench.damage(0, Damage::Put(place, *number));
+        }
+    }
+    tell::verdict(rt, "audit of", 0, bench.tray.audit(0))?;
+    tell::done(rt, "cross", bench.tray.cross())?;
+    tell::counted(rt, "mend", bench.tray.mend())?;
+    bench.damage(1, Damage::Hole(2));
+    tell::counted(rt, "mend", bench.tray.mend())?;
+    tell::shelf(rt, bench)?;
+    bench.restore(0, &before);
+    tell::counted(rt, "mend", bench.tray.mend())?;
+    compare(rt, bench, &before)
+}
