@@ -1,5 +1,5 @@
--- The twin, which is the reference copy: the table that the tray should hold, and is stored nowhere. Struck rows, which are those with damage that an audit
--- finds; damage, runs, and the law over runs.
+-- The twin, which is the reference copy: the table that the tray should hold, and is stored nowhere. Struck rows, which are those with damage of a kind that an audit
+-- is sure to find; damage, runs, and the law over runs.
 use Rattle.std.specs.Prelude.{◌≡◌, ℕ, ◌+◌, ◌-◌, ◌<◌, ◌≤◌, true, cond, ◌&&◌, ◌⊎◌, ◌↔◌, List, length, ◌==◌, nat_le, nat_lt, slice_index_or}
 use mathlib.Core.List.{Memᴰ as In}
 use Rattle.algebra.specs.Algebra.{Field}
