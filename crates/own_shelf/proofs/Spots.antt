@@ -4,9 +4,9 @@ use Rattle.shelves.specs.Memory.{spot_in}
 use Rattle.shelves.proofs.Arrays.{found, spot-within}
 use Rattle.algebra.proofs.Cases.{and_left, and_right}
 
-pub aimed : {A : Type 0} (rows places : ℕ) (xs : List A) (ms : List ℕ) (row place i : ℕ) → Some i ≡ spot_in rows places xs ms row place
+pub located : {A : Type 0} (rows places : ℕ) (xs : List A) (ms : List ℕ) (row place i : ℕ) → Some i ≡ spot_in rows places xs ms row place
     → (i < length xs) × (i < length ms)
-aimed rows places xs ms row place i e =
+located rows places xs ms row place i e =
     let f = found rows places xs ms row place i e in
     let h : row < rows = ltb-true _ _ (and_left _ _ f.1) in
     let k : place < places = ltb-true _ _ (and_right (ltb row rows) _ f.1) in

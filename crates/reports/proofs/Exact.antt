@@ -15,7 +15,7 @@ use Rattle.rules.proofs.Intake.{intake-exact}
 use Rattle.rules.proofs.Rows.{fitting}
 use Rattle.reports.specs.Cards.{listed, component-number, cards-of, numbers_of, Outcome-of}
 use Rattle.reports.specs.Exact.{signature-numbers, OutcomeExact, ImageExact, ReportExact}
-use Rattle.reports.specs.Report.{sizes-of, ImageOutcome, ReportOf, heard, Reported}
+use Rattle.reports.specs.Report.{sizes-of, ImageOutcome, ReportOf, input-head, Reported}
 use Rattle.reports.specs.declared.InputRefusal.{InputRefusal}
 use Rattle.reports.specs.declared.Report.{Report}
 use Rattle.reports.specs.declared.Report.TheVariants.{Tray}
@@ -70,7 +70,7 @@ image-exact : (f : FieldKind) (sizes : Sizes) (bytes : List ℕ) (o : Outcome) �
 image-exact Byte sizes bytes o a = outcome-exact byte-algebra sizes _ o a
 image-exact Counter sizes bytes o a = outcome-exact counter-algebra sizes _ o a
 
-exact-of : (bytes : List ℕ) (heard : Result Head InputRefusal) (report : Report) → ReportOf bytes heard report → ReportExact bytes report
+exact-of : (bytes : List ℕ) (input-head : Result Head InputRefusal) (report : Report) → ReportOf bytes input-head report → ReportExact bytes report
 exact-of bytes (Err r) report a h o is = let z : ◌≡◌ {A = ℕ} 0 1 = cc in absurd (omega arith)
 exact-of bytes (Ok g) report (o', is', a) h o is =
     let both : ◌≡◌ {A = Report} (Tray g o') (Tray h o) = sym is' ∙ is in
@@ -80,4 +80,4 @@ exact-of bytes (Ok g) report (o', is', a) h o is =
     (subst (λ (v : Outcome). ImageExact g.field (sizes-of g) bytes v) same' (image-exact g.field (sizes-of g) bytes o' a))
 
 pub report-exact : (bytes : List ℕ) (report : Report) → Reported bytes report → ReportExact bytes report
-report-exact bytes report a = exact-of bytes (heard bytes) report a
+report-exact bytes report a = exact-of bytes (input-head bytes) report a

@@ -10,8 +10,8 @@ use Rattle.rules.specs.Calls.{Answer, intake}
 use Rattle.rules.specs.States.{State}
 use Rattle.rules.specs.declared.Sizes.{Sizes}
 use Rattle.rules.proofs.Answered.{answered}
-use Rattle.reports.specs.Cards.{cards-of, answer-told, Outcome-of}
-use Rattle.reports.specs.Report.{ImageOutcome, ReportOf, heard, Reported, OnlyReport}
+use Rattle.reports.specs.Cards.{cards-of, outcome-answer, Outcome-of}
+use Rattle.reports.specs.Report.{ImageOutcome, ReportOf, input-head, Reported, OnlyReport}
 use Rattle.reports.specs.declared.InputRefusal.{InputRefusal}
 use Rattle.reports.specs.declared.Report.{Report}
 use Rattle.reports.specs.declared.Report.TheVariants.{Tray}
@@ -19,7 +19,7 @@ use Rattle.reports.specs.declared.cards.Outcome.{Outcome}
 use Rattle.reports.specs.declared.cards.Outcome.TheVariants.{Taken, Refused}
 
 module _ {A : Type 0} (F : Field A) (s : State A) where
-  alike : (o o' : Outcome) → (a : Outcome-of F s o) (a' : Outcome-of F s o') → ◌≡◌ {A = Answer A} (answer-told o) (answer-told o') → a.after ≡ a'.after → o ≡ o'
+  alike : (o o' : Outcome) → (a : Outcome-of F s o) (a' : Outcome-of F s o') → ◌≡◌ {A = Answer A} (outcome-answer o) (outcome-answer o') → a.after ≡ a'.after → o ≡ o'
   alike (Taken cards) (Taken cards') a a' e after = ap Taken (a.cards ∙ ap (cards-of F) after ∙ sym a'.cards)
   alike (Refused r) (Refused r') a a' e after = let same : r ≡ r' = cc in ap Refused same
   alike (Taken cards) (Refused r) a a' e after = let z : ◌≡◌ {A = ℕ} 0 1 = cc in absurd (omega arith)
@@ -41,4 +41,4 @@ report-once bytes (Err q) r r' a a' = a' ∙ sym a
 report-once bytes (Ok h) r r' (o, is, a) (o', is', a') = is' ∙ ap (Tray h) (image-once h.field _ bytes o' o a' a) ∙ sym is
 
 pub only-report : (bytes : List ℕ) (report : Report) → Reported bytes report → OnlyReport bytes report
-only-report bytes report a other a' = report-once bytes (heard bytes) report other a a'
+only-report bytes report a other a' = report-once bytes (input-head bytes) report other a a'

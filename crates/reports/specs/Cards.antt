@@ -26,18 +26,18 @@ module _ {A : Type 0} (F : Field A) (s : State A) where
 abbrev pub numbers_of : Cards → ℕ → List ℕ
 numbers_of t row = take (min t.components 8) (slice_index_or t.cards row (record { numbers = [] })).numbers
 
-abbrev pub answer-told : {A : Type 0} → Outcome → Answer A
-answer-told (Taken cards) = done
-answer-told (Refused r) = refused r
+abbrev pub outcome-answer : {A : Type 0} → Outcome → Answer A
+outcome-answer (Taken cards) = done
+outcome-answer (Refused r) = refused r
 
 module _ {A : Type 0} (F : Field A) where
   -- the cards told are those that stand in the state after
-  abbrev pub CardsTold : State A → Outcome → Type 0
-  CardsTold after (Taken cards) = cards ≡ cards-of F after
-  CardsTold after (Refused r) = Unit {0}
+  abbrev pub OutcomeCards : State A → Outcome → Type 0
+  OutcomeCards after (Taken cards) = cards ≡ cards-of F after
+  OutcomeCards after (Refused r) = Unit {0}
 
   -- An outcome of intake in a state: what the call's promise answers, and the cards that it leaves.
   pub record Outcome-of (s : State A) (o : Outcome) : Type 0 where
     pub after : State A
-    pub promise : Promise F s intake (answer-told o) after
-    pub cards : CardsTold after o
+    pub promise : Promise F s intake (outcome-answer o) after
+    pub cards : OutcomeCards after o

@@ -9,7 +9,7 @@ use Rattle.images.specs.declared.FieldKind.TheVariants.{Byte, Counter}
 use Rattle.images.specs.declared.Head.{Head}
 use Rattle.image_shelves.specs.Fields.{byte-image, counter-image}
 use Rattle.rules.specs.Codes.{component}
-use Rattle.rules.specs.Exact.{Deliverable}
+use Rattle.rules.specs.Exact.{Acceptable}
 use Rattle.rules.specs.States.{State, k, p, n, m, symbol-at}
 use Rattle.rules.specs.Views.{seen}
 use Rattle.rules.specs.declared.Sizes.{Sizes}
@@ -27,7 +27,7 @@ module _ {A : Type 0} (F : Field A) (s : State A) where
   signature-numbers row = listed (m s) (λ c. F.number (component F (n s) (symbol-at F s row) c))
 
   pub record OutcomeExact (o : Outcome) : Type 0 where
-    pub taken : ((cards : Cards) × (o ≡ Taken cards)) ↔ Deliverable F s
+    pub taken : ((cards : Cards) × (o ≡ Taken cards)) ↔ Acceptable F s
     pub rows : (cards : Cards) → o ≡ Taken cards → cards.rows ≡ k s + p s
     pub cards : (cards : Cards) → o ≡ Taken cards → (row : ℕ) → row < k s + p s → numbers_of cards row ≡ signature-numbers row
 

@@ -26,8 +26,8 @@ of-check (Ok h) = Ok h
 of-check (Err r) = Err (Image r)
 
 -- the head of an input, or why it is no image to take in
-abbrev pub heard : List ℕ → Result Head InputRefusal
-heard bytes = cond (nat_lt 65536 (length bytes)) (Err TooLong) (of-check (checked bytes))
+abbrev pub input-head : List ℕ → Result Head InputRefusal
+input-head bytes = cond (nat_lt 65536 (length bytes)) (Err TooLong) (of-check (checked bytes))
 
 -- the head's k, p, n and m
 abbrev pub sizes-of : Head → Sizes
@@ -44,7 +44,7 @@ ReportOf bytes (Ok h) report = (o : Outcome) × (report ≡ Tray h o) × ImageOu
 
 -- the report on an input; there is only one
 abbrev pub Reported : List ℕ → Report → Type 0
-Reported bytes report = ReportOf bytes (heard bytes) report
+Reported bytes report = ReportOf bytes (input-head bytes) report
 
 abbrev pub OnlyReport : List ℕ → Report → Type 0
 OnlyReport bytes report = (other : Report) → Reported bytes other → other ≡ report

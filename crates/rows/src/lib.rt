@@ -51,7 +51,8 @@ where
 
 // The element of a number, and zero where there is none.
 pub fn element<F: Field>(number: usize) -> F
-    ensures { number < F.Field.algebra.size → F.Field.meaning result ≡ F.Field.algebra.element number }
+    ensures known { number < F.Field.algebra.size → F.Field.meaning result ≡ F.Field.algebra.element number }
+    ensures unknown { F.Field.algebra.size ≤ number → F.Field.meaning result ≡ F.Field.algebra.zer }
 {
     match F::numbered(number) {
         Some(x) => x,

@@ -9,7 +9,7 @@ use Rattle.rules.specs.Calls.{intake, done}
 use Rattle.rules.specs.Updates.{carded}
 use Rattle.rules.specs.Promises.{Line, unfit, early, again, block-hole, misfit-intake, Promise, rejected, accepted, did-intake}
 use Rattle.rules.specs.Twins.{EqualRow}
-use Rattle.rules.specs.Exact.{Deliverable, Stocked, IntakeExact}
+use Rattle.rules.specs.Exact.{Acceptable, TakenIn, IntakeExact}
 use Rattle.rules.specs.declared.Refusal.{Refusal}
 use Rattle.rules.specs.declared.Sizes.{Sizes}
 use Rattle.rules.proofs.Found.{sure, nothing, lowest-pair-none, lowest-pair-some}
@@ -19,7 +19,7 @@ use Rattle.rules.proofs.Tables.{differ_same, same-differ, component-same, block-
 
 module _ {X : Type 0} (F : Field X) where
   -- where no line holds, the tray can be delivered
-  deliverable : (s : State X) → ((q : Refusal) → Line F s intake q → ⊥) → Deliverable F s
+  deliverable : (s : State X) → ((q : Refusal) → Line F s intake q → ⊥) → Acceptable F s
   deliverable s none = record {
     fitting = sure _ (λ e. none _ (unfit intake e));
     readable = λ row place h l.
@@ -28,7 +28,7 @@ module _ {X : Type 0} (F : Field X) where
   }
 
   -- and where it can be delivered, no line holds
-  pub no-refusal : (s : State X) → s.taken_in ≡ false → Deliverable F s → (q : Refusal) → Line F s intake q → ⊥
+  pub no-refusal : (s : State X) → s.taken_in ≡ false → Acceptable F s → (q : Refusal) → Line F s intake q → ⊥
   no-refusal s fresh d q (unfit _ e) = both_ways _ e d.fitting
   no-refusal s fresh d q (early _ e _) = both_ways _ refl e
   no-refusal s fresh d q (again e) = both_ways _ fresh e
@@ -39,8 +39,8 @@ module _ {X : Type 0} (F : Field X) where
       let f = lowest-pair-some _ _ (misfit F s) i place e in
       both_ways _ (same-differ F _ _ (sym (d.agreeing i place f.0 f.1))) f.2
 
-  module _ (s : State X) (d : Deliverable F s) where
-    stocked : Stocked F s (with-cells s (carded F s))
+  module _ (s : State X) (d : Acceptable F s) where
+    stocked : TakenIn F s (with-cells s (carded F s))
     stocked = record {
       blocks = λ row place h l.
           cell-inside F s d.fitting (carded F s) row place h (omega arith) ∙ rw (lt-ltb row (k s + p s) h, lt-leb (n s) place l);

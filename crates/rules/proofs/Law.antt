@@ -8,7 +8,7 @@ use Rattle.rules.specs.Calls.{is-sound}
 use Rattle.rules.specs.Calls.{Call, write, audit, Answer, judged}
 use Rattle.rules.specs.Promises.{Line, unfit, early, again, no_row, no_write, long-write, bad-write, bad-parity, Promise, accepted, rejected}
 use Rattle.rules.specs.Promises.{Accepts, did-fit, did-intake, did_write, did_read, did-audit, did-cross, did-begin, did-step, did-totals, did-record, did-first, did-mend}
-use Rattle.rules.specs.Twins.{overwritten, EqualRow, Takes, Follows, takes, stands, Run, starts, calls, suffers, Faithful}
+use Rattle.rules.specs.Twins.{overwritten, EqualRow, Takes, Follows, takes, stands, Run, starts, calls, damaged, Faithful}
 use Rattle.rules.specs.declared.Refusal.{Refusal}
 use Rattle.rules.specs.declared.Verdict.{Verdict}
 use Rattle.rules.specs.declared.Verdict.TheVariants.{Sound, Hole, Card}
@@ -27,7 +27,7 @@ module _ {X : Type 0} (F : Field X) where
   module _ (blocks : ℕ → ℕ → X) (s : State X) (kept : Kept F blocks s) where
     module _ {row start : ℕ} {xs : List X} where
       -- A write is refused exactly when the twin does not take it.
-      none-if-taken : Takes F blocks s row start xs → (q : Refusal) → Line F s (write row start xs) q → ⊥
+      pub none-if-taken : Takes F blocks s row start xs → (q : Refusal) → Line F s (write row start xs) q → ⊥
       none-if-taken t q (unfit _ e) = both_ways _ e kept.fitting
       none-if-taken t q (early _ _ e) = both_ways _ e kept.taken
       none-if-taken t q (no_write _ _ _ more) = omega (arith, t.of-data)
@@ -37,7 +37,7 @@ module _ {X : Type 0} (F : Field X) where
           let found = lowest-some (p s) (λ h. not (sound F s (k s + h))) i e in
           t.parity-clear i found.0 ((unsound-struck F blocks s kept (k s + i) (omega (arith, found.0))).0 (not-true _ found.1))
 
-      taken-if-none : ((q : Refusal) → Line F s (write row start xs) q → ⊥) → Takes F blocks s row start xs
+      pub taken-if-none : ((q : Refusal) → Line F s (write row start xs) q → ⊥) → Takes F blocks s row start xs
       taken-if-none none =
           let of-data : row < k s = elim (cases_lt row (k s)) [ inl l ↦ l | inr more ↦ absurd (none _ (no_write row start xs more)) ] in
           let is : sound F s row ≡ true = sure _ (λ e. none _ (bad-write row start xs e)) in
@@ -91,7 +91,7 @@ module _ {X : Type 0} (F : Field X) where
   pub run-kept : {blocks : ℕ → ℕ → X} {s : State X} → Run F blocks s → Kept F blocks s
   run-kept (starts sizes contents s promise) = intake-kept F sizes contents s promise
   run-kept (calls run _ _ _ promise _ follows) = call_kept _ _ (run-kept run) promise follows
-  run-kept (suffers run cells damage) = record { fitting = (run-kept run).fitting; taken = (run-kept run).taken; each_row = damage }
+  run-kept (damaged run cells damage) = record { fitting = (run-kept run).fitting; taken = (run-kept run).taken; each_row = damage }
 
   pub faithful : Faithful F
   faithful s = (

@@ -18,3 +18,4 @@ pub mod Parity
 pub mod Refusals
 pub mod Answered
 pub mod Loops
+pub mod Going

@@ -1,5 +1,5 @@
 -- The calls, their answers, and the refusals by number, layer and order.
-use Rattle.std.specs.Prelude.{ℕ, Bool, true, false, cond, List, [], ◌∷◌, Option, ◌==◌, slice_index}
+use Rattle.std.specs.Prelude.{ℕ, Bool, true, false, cond, List, [], ◌∷◌, Some, None, Option, ◌==◌, slice_index}
 use Rattle.rules.specs.declared.Entry.{Entry}
 use Rattle.rules.specs.declared.Layer.{Layer}
 use Rattle.rules.specs.declared.Layer.TheVariants.{Shelf, Row, Tray, Call as Caller}
@@ -65,6 +65,17 @@ returned (StillWalking row) = 11 ∷ row ∷ []
 -- a refusal's own number
 abbrev pub own-number : Refusal → ℕ
 own-number r = slice_index (returned r) 0
+
+-- the number with which a call returns that has nothing else to return: 0 where it is accepted, its refusal's number where it is not
+abbrev pub return-number : {X : Type 0} → Answer X → Option ℕ
+return-number done = Some 0
+return-number (judged verdict) = None
+return-number (copied xs) = Some 0
+return-number (counts sound others) = None
+return-number (entry-is entry) = None
+return-number (lowest-is row) = None
+return-number (mended count) = None
+return-number (refused refusal) = Some (own-number refusal)
 
 -- where the fault of an unsound row lies
 abbrev pub verdict-layer : Verdict → Layer

@@ -19,20 +19,20 @@ module _ {X : Type 0} (F : Field X) where
   ParityFits k symbols i place = symbols (k + i) place ≡ combination F k (λ j. symbols j place) i
 
   -- What intake accepts: the tray fits, no block has a hole, and every parity row fits at every place of the blocks.
-  pub record Deliverable (s : State X) : Type 0 where
+  pub record Acceptable (s : State X) : Type 0 where
     pub fitting : fits F s ≡ true
     pub readable : (row place : ℕ) → row < k s + p s → place < n s → (x : X) × (cell s row place ≡ symbol x)
     pub agreeing : (i place : ℕ) → i < p s → place < n s → ParityFits (k s) (symbol-at F s) i place
 
   -- What intake leaves: every block as it was, and every card the signature of its block.
-  pub record Stocked (s s' : State X) : Type 0 where
+  pub record TakenIn (s s' : State X) : Type 0 where
     pub blocks : (row place : ℕ) → row < k s + p s → place < n s → cell s' row place ≡ cell s row place
     pub cards : (row c : ℕ) → row < k s + p s → c < m s → cell s' row (n s + c) ≡ symbol (component F (n s) (symbol-at F s row) c)
 
   -- Intake accepts a new tray exactly when it can be delivered, and stocks it.
   abbrev pub IntakeExact : Type 0
   IntakeExact = (sizes : Sizes) (contents : Contents X) (answer : Answer X) (s' : State X) → Promise F (new sizes contents) intake answer s'
-      → ((answer ≡ done) ↔ Deliverable (new sizes contents)) × (answer ≡ done → Stocked (new sizes contents) s')
+      → ((answer ≡ done) ↔ Acceptable (new sizes contents)) × (answer ≡ done → TakenIn (new sizes contents) s')
 
   -- Contents that mend tray s: its sound rows untouched, every row whole, every parity row fitting at every place.
   pub record Mends (s : State X) (after : Contents X) : Type 0 where

@@ -1,33 +1,24 @@
 -- A round, action by action, and a sheet, record by record: what their methods answer and leave.
-use Rattle.std.specs.Prelude.{ℕ, ◌+◌, cond, Ok, Err, Result, nat_lt, slice_index_or}
-use Rattle.rules.specs.Updates.{entry-sound}
+use Rattle.std.specs.Prelude.{ℕ, ◌+◌, cond, Ok, Err, Result}
+use Rattle.rules.specs.Updates.{entry-sound, next-row}
 use Rattle.rules.specs.declared.Action.{Action}
 use Rattle.rules.specs.declared.Action.TheVariants.{Begin, Step, Totals}
 use Rattle.rules.specs.declared.Entry.{Entry}
-use Rattle.rules.specs.declared.Entry.TheVariants.{Unread, Read}
+use Rattle.rules.specs.declared.Entry.TheVariants.{Read}
 use Rattle.rules.specs.declared.Record.{Record}
 use Rattle.rules.specs.declared.Refusal.{Refusal}
 use Rattle.rules.specs.declared.Refusal.TheVariants.{WrongPhase, StillWalking}
 use Rattle.rules.specs.declared.Round.{Round}
 use Rattle.rules.specs.declared.Round.TheVariants.{Resting, Walking, Over}
-use Rattle.rules.specs.declared.Sheet.{Sheet}
 use Rattle.rules.specs.declared.Verdict.{Verdict}
 
 -- a record that holds a verdict
 abbrev pub entered : Verdict → Record
 entered verdict = record { entry = Read verdict }
 
--- what a sheet says of a row, and unread where it has no record
-abbrev pub entry-at : Sheet → ℕ → Entry
-entry-at sheet row = (slice_index_or sheet.records row (record { entry = Unread })).entry
-
 -- the pair of counts with one entry more
 abbrev pub tallied : ℕ × ℕ → Entry → ℕ × ℕ
 tallied totals entry = cond (entry-sound entry) (totals.0 + 1, totals.1) (totals.0, totals.1 + 1)
-
--- the next row of so many, or over
-abbrev pub next-row : ℕ → ℕ → Round
-next-row row rows = cond (nat_lt (row + 1) rows) (Walking (row + 1)) Over
 
 -- the row at which a round begins, the row that a step audits, how many rows were walked; or the refusal
 abbrev pub turn-answer : Round → Action → ℕ → Result ℕ Refusal

@@ -74,7 +74,12 @@ module _ {X : Type 0} (F : Field X) where
     starts : (sizes : Sizes) (contents : Contents X) (s : State X) → Promise F (new sizes contents) intake done s → Run (symbol-at F (new sizes contents)) s
     calls : {blocks : ℕ → ℕ → X} {s : State X} → Run blocks s → (c : Call X) (answer : Answer X) (s' : State X) → Promise F s c answer s'
         → (blocks' : ℕ → ℕ → X) → Follows blocks s c blocks' → Run blocks' s'
-    suffers : {blocks : ℕ → ℕ → X} {s : State X} → Run blocks s → (cells : ℕ → ℕ → Cell X) → Damage blocks s cells → Run blocks (with-cells s cells)
+    damaged : {blocks : ℕ → ℕ → X} {s : State X} → Run blocks s → (cells : ℕ → ℕ → Cell X) → Damage blocks s cells → Run blocks (with-cells s cells)
+
+  -- Every run goes on with any call, however it is answered: what the call does to the twin is always settled.
+  abbrev pub GoesOn : Type 0
+  GoesOn = (blocks : ℕ → ℕ → X) (s : State X) → Run blocks s → (c : Call X) (answer : Answer X) (s' : State X) → Promise F s c answer s'
+      → (blocks' : ℕ → ℕ → X) × Follows blocks s c blocks'
 
   -- What audit of a row of the tray answers after a run: sound exactly when that row equals its twin.
   abbrev pub AuditFaithful : State X → ℕ → Answer X → Type 0

@@ -10,6 +10,7 @@ use Rattle.rules.specs.States.{State, symbol-or, k, p, n, m, cell, symbol-at, so
 use Rattle.rules.specs.Calls.{is-sound}
 use Rattle.rules.specs.declared.Entry.{Entry}
 use Rattle.rules.specs.declared.Entry.TheVariants.{Unread, Read}
+use Rattle.rules.specs.declared.Sheet.{Sheet}
 use Rattle.rules.specs.declared.Round.{Round}
 use Rattle.rules.specs.declared.Round.TheVariants.{Resting, Walking, Over}
 
@@ -33,6 +34,14 @@ abbrev pub entry-bad : Entry → Bool
 entry-bad Unread = false
 entry-bad (Read v) = not (is-sound v)
 
+-- the round at the next row of so many, or over
+abbrev pub next-row : ℕ → ℕ → Round
+next-row row rows = cond (nat_lt (row + 1) rows) (Walking (row + 1)) Over
+
+-- what a sheet says of a row, and unread where it has no record
+abbrev pub entry-at : Sheet → ℕ → Entry
+entry-at sheet row = (slice_index_or sheet.records row (record { entry = Unread })).entry
+
 module _ {X : Type 0} (s : State X) where
   -- start at most n, count at most n - start
   abbrev pub allowed : ℕ → ℕ → Bool
@@ -40,11 +49,11 @@ module _ {X : Type 0} (s : State X) where
 
   -- The row after this one, or over. No run walks beyond the rows; a walk that does is over with its next step.
   abbrev pub next-round : ℕ → Round
-  next-round row = cond (nat_lt (row + 1) (k s + p s)) (Walking (row + 1)) Over
+  next-round row = next-row row (k s + p s)
 
   -- what the sheet says of a row
   abbrev pub entry_of : ℕ → Entry
-  entry_of row = (slice_index_or s.sheet.records row (record { entry = Unread })).entry
+  entry_of = entry-at s.sheet
 
   -- a write to a data row touches that row and the parity rows; in each, place t and the card
   abbrev pub touched : ℕ → ℕ → ℕ → ℕ → Bool

@@ -4,10 +4,10 @@
 ghost use Rattle.std.specs.Prelude.{◌≡◌, ◌+◌, ◌^◌, ◌<◌, not, slice_set, Some};
 ghost use Rattle.rules.specs.Calls.{own-number, returned, layer as layer-of, is-sound};
 ghost use Rattle.rules.specs.Search.{counted, lowest};
-ghost use Rattle.rules.specs.Sheets.{entered, entry-at, next-row, tallied, turn-answer, turned};
+ghost use Rattle.rules.specs.Sheets.{entered, tallied, turn-answer, turned};
 ghost use Rattle.rules.specs.States.{unread, within-limits};
 ghost use Rattle.rules.specs.Text.{numbers-text};
-ghost use Rattle.rules.specs.Updates.{entry-bad, entry-sound};
+ghost use Rattle.rules.specs.Updates.{entry-at, entry-bad, entry-sound, next-row};
 
 use std::fmt;
 

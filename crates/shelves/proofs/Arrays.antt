@@ -5,7 +5,7 @@ use Rattle.shelves.specs.declared.Got.TheVariants.{Symbol}
 use Rattle.shelves.specs.declared.Placed.TheVariants.{Done, Outside}
 use Rattle.shelves.specs.Contents.{symbol, within, inside, get-answer, put-answer, after-put}
 use Rattle.shelves.specs.declared.array.ArrayShelf.{ArrayShelf}
-use Rattle.shelves.specs.Array.{array_spot, Hit, Missed}
+use Rattle.shelves.specs.Array.{array_spot, InRange, OutOfRange}
 use Rattle.shelves.specs.Memory.{stored, marked, sized, memory, spot_in, put_in}
 use Rattle.shelves.proofs.Contents.{put-beyond, put-filled, apart}
 use Rattle.algebra.proofs.Cases.{by_cases, and_left, and_right}
@@ -91,7 +91,7 @@ module _ {A : Type 0} where
         rw (l, s) (put-filled rows places _ _ row place x w here others)
 
 module _ {A : Type 0} (s : ArrayShelf A) (row place : ℕ) where
-  pub hit : (i : ℕ) → Some i ≡ array_spot s row place → Hit s row place i
+  pub hit : (i : ℕ) → Some i ≡ array_spot s row place → InRange s row place i
   hit i e =
       let xs = s.symbols.now in
       let ms = s.marks.now in
@@ -110,7 +110,7 @@ module _ {A : Type 0} (s : ArrayShelf A) (row place : ℕ) where
         marks = ap (λ j. put_in j 1 ms) e;
       }
 
-  pub missed : None ≡ array_spot s row place → Missed s row place
+  pub missed : None ≡ array_spot s row place → OutOfRange s row place
   missed e =
       let xs = s.symbols.now in
       let ms = s.marks.now in

@@ -30,12 +30,12 @@ pub record Stored {A : Type 0} (s : ArrayShelf A) (row place : ℕ) (x : A) (aft
   pub same-marks : after.marks.ghost_name ≡ s.marks.ghost_name
 
 -- what a put does, by the spot that was found for its row and place
-pub record Missed {A : Type 0} (s : ArrayShelf A) (row place : ℕ) : Type 0 where
+pub record OutOfRange {A : Type 0} (s : ArrayShelf A) (row place : ℕ) : Type 0 where
   pub answer : Outside ≡ put-answer (array-contents s) row place
   pub after : (x : A) → array-contents s ≡ after-put (array-contents s) row place x
   pub stored : (x : A) → Stored s row place x s
 
-pub record Hit {A : Type 0} (s : ArrayShelf A) (row place i : ℕ) : Type 0 where
+pub record InRange {A : Type 0} (s : ArrayShelf A) (row place i : ℕ) : Type 0 where
   pub in-symbols : i < length s.symbols.now
   pub in-marks : i < length s.marks.now
   pub answer : Done ≡ put-answer (array-contents s) row place
@@ -43,6 +43,6 @@ pub record Hit {A : Type 0} (s : ArrayShelf A) (row place i : ℕ) : Type 0 wher
   pub symbols : (x : A) → slice_set s.symbols.now i x ≡ put_in (array_spot s row place) x s.symbols.now
   pub marks : slice_set s.marks.now i 1 ≡ put_in (array_spot s row place) 1 s.marks.now
 
-abbrev pub Aimed : {A : Type 0} → ArrayShelf A → ℕ → ℕ → Option ℕ → Type 0
-Aimed s row place None = Missed s row place
-Aimed s row place (Some i) = Hit s row place i
+abbrev pub Located : {A : Type 0} → ArrayShelf A → ℕ → ℕ → Option ℕ → Type 0
+Located s row place None = OutOfRange s row place
+Located s row place (Some i) = InRange s row place i

@@ -1,6 +1,6 @@
 // A shelf over lent memory: symbols and marks, row after row.
 ghost use Rattle.std.specs.Prelude.{◌≡◌, ◌<◌, length, slice_index_or};
-ghost use Rattle.shelves.specs.Array.{array-contents, array_spot, Lent, Stored, Aimed};
+ghost use Rattle.shelves.specs.Array.{array-contents, array_spot, Lent, Stored, Located};
 ghost use Rattle.shelves.specs.Contents.{put-answer, after-put};
 ghost use Rattle.shelves.specs.Memory.{memory, sized};
 
@@ -54,7 +54,7 @@ impl<'a, T: Copy> ArrayShelf<'a, T> {
     // Where the symbol and the mark of a row and a place lie, if the shelf has them.
     fn spot(&self, row: usize, place: usize) -> Option<usize>
         ensures is { result ≡ array_spot self.now row place }
-        ensures aimed { Aimed self.now row place result }
+        ensures located { Located self.now row place result }
     {
         if self.is_sized() && row < self.rows && place < self.places {
             Some(row * self.places + place)

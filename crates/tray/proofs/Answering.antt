@@ -11,7 +11,8 @@ use Rattle.shelves.specs.Contents.{Contents, is-hole}
 use Rattle.rules.specs.Calls.{Call, fit, intake, audit, read, write, cross, begin, step, totals, record_of, first, done, judged, copied, counts, entry-is, lowest-is, refused, wants-intake}
 use Rattle.rules.specs.Promises.{Promise, accepted, did-fit, did-intake, did-audit, did_read, did_write, did-cross, did-begin, did-step, did-totals, did-record, did-first}
 use Rattle.rules.specs.Search.{lowest, lowest-pair, counted}
-use Rattle.rules.specs.Sheets.{entered, turn-answer, turned, next-row}
+use Rattle.rules.specs.Sheets.{entered, turn-answer, turned}
+use Rattle.rules.specs.Updates.{next-row}
 use Rattle.rules.specs.States.{State, unread, k, p, n, m, cell, fits, audited, sound, misfit, with-cells}
 use Rattle.rules.specs.Updates.{allowed, carded, span, written, entry_of, entry-sound, entry-bad, walking, over}
 use Rattle.rules.specs.declared.Action.TheVariants.{Begin, Step, Totals}

@@ -1,12 +1,12 @@
 // A tray: a redundancy group over any shelf, and its calls.
 #![tactic(auto)]
 
-ghost use Rattle.std.specs.Prelude.{◌≡◌, ℕ, ◌+◌, ◌^◌, ◌<◌, length, map, OnErr};
+ghost use Rattle.std.specs.Prelude.{◌≡◌, ℕ, ◌+◌, ◌^◌, ◌<◌, length, map, Some, if◌then◌else◌, OnErr};
 ghost use Rattle.algebra.specs.Algebra.{Field as Algebra};
 ghost use Rattle.algebra.specs.Below.{Below};
 ghost use Rattle.rules.specs.Calls.{fit as fit-call, intake as intake-call, audit as audit-call, read as read-call, write as write-call, cross as cross-call};
 ghost use Rattle.rules.specs.Calls.{begin as begin-call, step as step-call, totals as totals-call, record_of as record-call, first as first-call, mend as mend-call};
-ghost use Rattle.rules.specs.Calls.{judged, entry-is, lowest-is, mended};
+ghost use Rattle.rules.specs.Calls.{judged, entry-is, lowest-is, mended, return-number};
 ghost use Rattle.rules.specs.Audits.{AuditExact, ChangesSeen, NoLongerSound};
 ghost use Rattle.rules.specs.Crosses.{CrossAccepts};
 ghost use Rattle.rules.specs.Exact.{IntakeExact, MendExact};
@@ -87,7 +87,8 @@ where
 
     // Whether the tray fits its shelf and its field.
     pub fn fit(&self) -> Result<(), Refusal>
-        ensures { Promise S.Symbol.Field.algebra (state S.Shelf.contents S.Symbol.Field.meaning self.now) fit-call (answer-of result) (state S.Shelf.contents S.Symbol.Field.meaning self.now) }
+        ensures promise { Promise S.Symbol.Field.algebra (state S.Shelf.contents S.Symbol.Field.meaning self.now) fit-call (answer-of result) (state S.Shelf.contents S.Symbol.Field.meaning self.now) }
+        ensures number { return-number {X = Below S.Symbol.Field.size} (answer-of result) ≡ Some (if fits S.Symbol.Field.algebra (state S.Shelf.contents S.Symbol.Field.meaning self.now) then 0 else 1) }
     {
         if self.fits() {
             Ok(())

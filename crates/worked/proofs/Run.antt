@@ -20,7 +20,7 @@ use Rattle.rules.proofs.Mend.{refused-many, twin-worked}
 use Rattle.rules.proofs.Refusals.{refusal, unrefused, refused-promise}
 use Rattle.rules.proofs.Rows.{struck-unsound}
 use Rattle.rules.proofs.Writing.{none_over}
-use Rattle.worked.specs.Run.{example-sizes, held, delivered, tray, stocked, rewritten, broken, relieved, first-blocks, blocks, Called, Steps, run, Example-run}
+use Rattle.worked.specs.Run.{example-sizes, held, delivered, tray, stocked, rewritten, broken, partly-right, first-blocks, blocks, Called, Steps, run, Example-run}
 use Rattle.worked.proofs.Tested.{each, each-true, alike, alike-contents, whole, whole-equal, whole-but, block-struck, card-struck}
 
 -- a tray over these cells holds what these rows hold
@@ -177,48 +177,48 @@ mend-stands s = stands (λ row start xs e takes. let z : ◌≡◌ {A = ℕ} 0 1
 not-mended : Called blocks (tray broken) mend (refused (TooManyUnsound 3)) (tray broken) blocks
 not-mended = record { promised = refused-promise byte-algebra (tray broken) _ _ mend-refused; followed = mend-stands (tray broken) }
 
-relieved-0 : whole 5 (cell (tray relieved) 0) (twin-at byte-algebra blocks (tray relieved) 0) ≡ true
+relieved-0 : whole 5 (cell (tray partly-right) 0) (twin-at byte-algebra blocks (tray partly-right) 0) ≡ true
 unfolding ◌·◌ squares inverse polynomial-product product-of-bits remainder inverse-by
 relieved-0 = refl
 
-relieved-2 : whole 5 (cell (tray relieved) 2) (twin-at byte-algebra blocks (tray relieved) 2) ≡ true
+relieved-2 : whole 5 (cell (tray partly-right) 2) (twin-at byte-algebra blocks (tray partly-right) 2) ≡ true
 unfolding ◌·◌ squares inverse polynomial-product product-of-bits remainder inverse-by
 relieved-2 = refl
 
-relieved-3 : whole-but 4 5 (cell (tray relieved) 3) (twin-at byte-algebra blocks (tray relieved) 3) ≡ true
+relieved-3 : whole-but 4 5 (cell (tray partly-right) 3) (twin-at byte-algebra blocks (tray partly-right) 3) ≡ true
 unfolding ◌·◌ squares inverse polynomial-product product-of-bits remainder inverse-by
 relieved-3 = refl
 
-eased : Damage byte-algebra blocks (tray broken) (held relieved)
-eased zero l = inl (whole-equal 3 2 (cell (tray relieved) 0) (twin-at byte-algebra blocks (tray relieved) 0) relieved-0)
-eased (suc zero) l = inr (holed 0 (omega arith) refl)
-eased (suc (suc zero)) l = inl (whole-equal 3 2 (cell (tray relieved) 2) (twin-at byte-algebra blocks (tray relieved) 2) relieved-2)
-eased (suc (suc (suc zero))) l = inr (card-struck 3 2 (cell (tray relieved) 3) (twin-at byte-algebra blocks (tray relieved) 3) 4 relieved-3 (omega arith) (omega arith))
-eased (suc (suc (suc (suc row)))) l = absurd (omega arith)
+lessened : Damage byte-algebra blocks (tray broken) (held partly-right)
+lessened zero l = inl (whole-equal 3 2 (cell (tray partly-right) 0) (twin-at byte-algebra blocks (tray partly-right) 0) relieved-0)
+lessened (suc zero) l = inr (holed 0 (omega arith) refl)
+lessened (suc (suc zero)) l = inl (whole-equal 3 2 (cell (tray partly-right) 2) (twin-at byte-algebra blocks (tray partly-right) 2) relieved-2)
+lessened (suc (suc (suc zero))) l = inr (card-struck 3 2 (cell (tray partly-right) 3) (twin-at byte-algebra blocks (tray partly-right) 3) 4 relieved-3 (omega arith) (omega arith))
+lessened (suc (suc (suc (suc row)))) l = absurd (omega arith)
 
-relieved-fits : fits byte-algebra (tray relieved) ≡ true
+relieved-fits : fits byte-algebra (tray partly-right) ≡ true
 unfolding ◌·◌ squares inverse polynomial-product product-of-bits remainder inverse-by
 relieved-fits = refl
 
-two-unsound : unsound-count byte-algebra (tray relieved) ≡ 2
+two-unsound : unsound-count byte-algebra (tray partly-right) ≡ 2
 unfolding ◌·◌ squares inverse polynomial-product product-of-bits remainder inverse-by
 two-unsound = refl
 
-mend-cells : alike 4 5 (mended-cells byte-algebra (tray relieved) blocks) (held rewritten) ≡ true
+mend-cells : alike 4 5 (mended-cells byte-algebra (tray partly-right) blocks) (held rewritten) ≡ true
 unfolding ◌·◌ squares inverse polynomial-product product-of-bits remainder inverse-by
 mend-cells = refl
 
-kept : Kept byte-algebra blocks (tray relieved)
-kept = record { fitting = relieved-fits; taken = refl; each_row = eased }
+kept : Kept byte-algebra blocks (tray partly-right)
+kept = record { fitting = relieved-fits; taken = refl; each_row = lessened }
 
-mended-two : Called blocks (tray relieved) mend (mended 2) (tray rewritten) blocks
+mended-two : Called blocks (tray partly-right) mend (mended 2) (tray rewritten) blocks
 mended-two = record {
   promised =
-      subst₂ (λ count t. Promise byte-algebra (tray relieved) mend (mended count) t) two-unsound
-      (tray-holds (mended-cells byte-algebra (tray relieved) blocks) rewritten mend-cells)
-      (accepted (λ q line. omega (arith, two-unsound, refused-many byte-algebra (tray relieved) blocks kept line))
-      (did-mend blocks (twin-worked byte-algebra (tray relieved) blocks kept)));
-  followed = mend-stands (tray relieved);
+      subst₂ (λ count t. Promise byte-algebra (tray partly-right) mend (mended count) t) two-unsound
+      (tray-holds (mended-cells byte-algebra (tray partly-right) blocks) rewritten mend-cells)
+      (accepted (λ q line. omega (arith, two-unsound, refused-many byte-algebra (tray partly-right) blocks kept line))
+      (did-mend blocks (twin-worked byte-algebra (tray partly-right) blocks kept)));
+  followed = mend-stands (tray partly-right);
 }
 
 rewritten-whole : each 4 (λ row. whole 5 (cell (tray rewritten) row) (twin-at byte-algebra blocks (tray rewritten) row)) ≡ true
@@ -239,7 +239,7 @@ steps = record {
   damaged = damaged;
   not-written = not-written;
   not-mended = not-mended;
-  eased = eased;
+  lessened = lessened;
   mended-two = mended-two;
   equal = equal;
 }

@@ -5,7 +5,7 @@ use Rattle.byte_field.specs.Meaning.{byte-algebra}
 use Rattle.rules.specs.Calls.{Call, intake, write, mend, Answer, done, mended, refused}
 use Rattle.rules.specs.Promises.{Promise}
 use Rattle.rules.specs.States.{State, new, unread, symbol-at}
-use Rattle.rules.specs.Twins.{overwritten, EqualRow, Follows, Damage, Run, starts, calls, suffers}
+use Rattle.rules.specs.Twins.{overwritten, EqualRow, Follows, Damage, Run, starts, calls, damaged}
 use Rattle.rules.specs.declared.Refusal.TheVariants.{BadSpan, Unsound, TooManyUnsound}
 use Rattle.rules.specs.declared.Round.TheVariants.{Resting}
 use Rattle.rules.specs.declared.Sizes.{Sizes}
@@ -43,8 +43,8 @@ abbrev pub broken : List (List ℕ)
 broken = (1 ∷ 7 ∷ 9 ∷ 5 ∷ 3 ∷ []) ∷ [] ∷ (5 ∷ 7 ∷ 3 ∷ 1 ∷ 7 ∷ []) ∷ (163 ∷ 85 ∷ 247 ∷ 1 ∷ 0 ∷ []) ∷ []
 
 -- Row 0 reads right again, so that two are struck.
-abbrev pub relieved : List (List ℕ)
-relieved = (1 ∷ 7 ∷ 3 ∷ 5 ∷ 3 ∷ []) ∷ [] ∷ (5 ∷ 7 ∷ 3 ∷ 1 ∷ 7 ∷ []) ∷ (163 ∷ 85 ∷ 247 ∷ 1 ∷ 0 ∷ []) ∷ []
+abbrev pub partly-right : List (List ℕ)
+partly-right = (1 ∷ 7 ∷ 3 ∷ 5 ∷ 3 ∷ []) ∷ [] ∷ (5 ∷ 7 ∷ 3 ∷ 1 ∷ 7 ∷ []) ∷ (163 ∷ 85 ∷ 247 ∷ 1 ∷ 0 ∷ []) ∷ []
 
 -- the twin's blocks, before the write and after it
 abbrev pub first-blocks : ℕ → ℕ → Below 256
@@ -68,8 +68,8 @@ pub record Steps : Type 0 where
   pub damaged : Damage byte-algebra blocks (tray rewritten) (held broken)
   pub not-written : Called blocks (tray broken) (write 0 0 (byte-algebra.element 8 ∷ [])) (refused (Unsound 0 (Card 0))) (tray broken) blocks
   pub not-mended : Called blocks (tray broken) mend (refused (TooManyUnsound 3)) (tray broken) blocks
-  pub eased : Damage byte-algebra blocks (tray broken) (held relieved)
-  pub mended-two : Called blocks (tray relieved) mend (mended 2) (tray rewritten) blocks
+  pub lessened : Damage byte-algebra blocks (tray broken) (held partly-right)
+  pub mended-two : Called blocks (tray partly-right) mend (mended 2) (tray rewritten) blocks
   -- at the end every row equals its twin
   pub equal : (row : ℕ) → row < 4 → EqualRow byte-algebra blocks (tray rewritten) row
 
@@ -80,11 +80,11 @@ run e =
     let wrote = calls took _ _ _ e.written.promised _ e.written.followed in
     let wrote-none = calls wrote _ _ _ e.none-written.promised _ e.none-written.followed in
     let refused-span = calls wrote-none _ _ _ e.none-beyond.promised _ e.none-beyond.followed in
-    let broke = suffers refused-span (held broken) e.damaged in
+    let broke = damaged refused-span (held broken) e.damaged in
     let refused-write = calls broke _ _ _ e.not-written.promised _ e.not-written.followed in
     let refused-mend = calls refused-write _ _ _ e.not-mended.promised _ e.not-mended.followed in
-    let eased = suffers refused-mend (held relieved) e.eased in
-    calls eased _ _ _ e.mended-two.promised _ e.mended-two.followed
+    let lessened = damaged refused-mend (held partly-right) e.lessened in
+    calls lessened _ _ _ e.mended-two.promised _ e.mended-two.followed
 
 -- The steps hold, and what they make is a run.
 pub record Example-run : Type 0 where

@@ -1,6 +1,11 @@
-// The worked examples of the rule book, proved of the definitions.
+// The worked examples of the rule book, and two theorems on the definitions, proved of them.
 #![tactic(auto)]
 
+ghost use Rattle.std.specs.Prelude.{ℕ};
+ghost use Rattle.algebra.specs.Algebra.{Field as Algebra};
+ghost use Rattle.algebra.specs.Below.{Below};
+ghost use Rattle.rules.specs.Parity.{FirstRowOnes, FirstRowSums};
+ghost use Rattle.rules.specs.Twins.{GoesOn};
 ghost use Rattle.worked.specs.Examples.{Worked-examples};
 ghost use Rattle.worked.specs.Run.{Example-run};
 
@@ -12,4 +17,15 @@ pub fn worked_examples_hold()
 // The example image goes through an intake, writes, damage of each kind, a refused write, a refused mend and a mend, and ends equal to its twin.
 pub fn example_run_holds()
     ensures { Example-run }
+{}
+
+// Parity row 0 is the plain sum of the data rows, over every field.
+pub fn first_parity_row_sums()
+    ensures ones { (q : ℕ) (F : Algebra (Below q)) → FirstRowOnes F }
+    ensures sums { (q : ℕ) (F : Algebra (Below q)) → FirstRowSums F }
+{}
+
+// Every run of a tray goes on with any call: what a call does to the twin is always settled.
+pub fn runs_go_on()
+    ensures { (q : ℕ) (F : Algebra (Below q)) → GoesOn F }
 {}

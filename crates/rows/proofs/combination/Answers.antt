@@ -11,7 +11,7 @@ loop-j-preserved g c i few known =
     let j = c.loop-j.j in
     let is = known j (omega arith) in
     let small : get_or c.args.coefficients.now j 0 < F.size = omega (arith, is, F.number_bound (coefficient F i j)) in
-    let weighs = c.element-weight.ensures small ∙ ap F.element is ∙ F.element-number (coefficient F i j) in
+    let weighs = c.element-weight.ensures.known small ∙ ap F.element is ∙ F.element-number (coefficient F i j) in
     c.sum-sum.ensures
     ∙ ap₂ F.add (c.loop-j.invariant i few known) (c.product.ensures ∙ ap₂ F.mul weighs c.symbol_at.ensures)
     ∙ combination-more F j (λ l. element-at F g.S.Symbol.Field.meaning (g.S.Shelf.contents c.args.shelf.now) l c.args.place) i

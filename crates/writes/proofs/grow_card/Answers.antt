@@ -15,7 +15,7 @@ loop-component-preserved g c place =
     (λ when. when.0)
     (λ when. let f = fitting F (seen meaning c.args.sizes before) when.0.fitting in omega (arith, c.saturating_add.ensures))
     (λ when. c.product.ensures ∙ ap (λ v. F.mul v (meaning c.args.change))
-    (numbered F _ _ c.element-weight.ensures (when.1 c.loop-component.component (omega arith)) ∙ sym (card-weight F (seen meaning c.args.sizes before) place c.loop-component.component)))
+    (numbered F _ _ c.element-weight.ensures.known (when.1 c.loop-component.component (omega arith)) ∙ sym (card-weight F (seen meaning c.args.sizes before) place c.loop-component.component)))
     (omega arith) (c.loop-component.invariant place) (c.grow.ensures c.args.sizes)
 
 pub returns : goal.returns

@@ -16,6 +16,6 @@ loop-component-preserved g c =
           (λ l h. let ne : l ≢ i = omega arith in get_or-set_other next i l v 0 ne ∙ c.loop-component.invariant.1 place small bases powers l h)
           (get_or-set_same next i v 0 inside ∙ c.number.ensures
           ∙ ap F.number (c.product.ensures ∙ ap₂ F.mul
-          (numbered F _ _ c.element-base.ensures (bases i (omega arith))) (numbered F _ _ c.element-power.ensures (powers i (omega arith)))
+          (numbered F _ _ c.element-base.ensures.known (bases i (omega arith))) (numbered F _ _ c.element-power.ensures.known (powers i (omega arith)))
           ∙ ap (power F (base F i)) (sym (add-one place)))),
     )

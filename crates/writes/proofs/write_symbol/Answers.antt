@@ -21,7 +21,7 @@ loop-i-preserved g c =
     rows-step F meaning c.args.sizes before (g.S.Shelf.contents c.loop-i.shelf) _ c.args.row c.args.place (meaning c.difference-change.result) c.loop-i.i c.saturating_add-parity_row.result _ c.args.powers.now
     (λ when. when.0.parity c.loop-i.i (omega arith)) (λ when. when.1) (λ when. when.3)
     (λ when. let f = fitting F (seen meaning c.args.sizes before) when.0.fitting in omega (arith, c.saturating_add-parity_row.ensures))
-    (λ when. c.product.ensures ∙ ap (λ v. F.mul v (meaning c.difference-change.result)) (numbered F _ _ c.element-weight.ensures (when.2 c.loop-i.i (omega arith))))
+    (λ when. c.product.ensures ∙ ap (λ v. F.mul v (meaning c.difference-change.result)) (numbered F _ _ c.element-weight.ensures.known (when.2 c.loop-i.i (omega arith))))
     c.loop-i.invariant c.grow_row-in-loop-i.ensures
 
 pub returns : goal.returns

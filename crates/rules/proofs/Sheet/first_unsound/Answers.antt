@@ -1,5 +1,5 @@
 use Rattle.std.proofs.Common.{◌≡◌, ℕ, Bool, not, sym, ap, ◌∙◌, arith}
-use Rattle.rules.specs.Sheets.{entry-at}
+use Rattle.rules.specs.Updates.{entry-at}
 use Rattle.rules.specs.Updates.{entry-bad}
 use Rattle.rules.proofs.Found.{none-lowest}
 use Rattle.rules.proofs.Loops.{lowest-at}

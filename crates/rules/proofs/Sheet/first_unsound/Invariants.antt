@@ -1,5 +1,5 @@
 use Rattle.std.proofs.Common.{◌≡◌, ℕ, ◌<◌, false}
-use Rattle.rules.specs.Sheets.{entry-at}
+use Rattle.rules.specs.Updates.{entry-at}
 use Rattle.rules.specs.Updates.{entry-bad}
 use Rattle.rules.proofs.Sheet.first_unsound.Given as goal
 

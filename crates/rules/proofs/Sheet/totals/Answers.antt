@@ -1,5 +1,5 @@
 use Rattle.std.proofs.Common.{arith}
-use Rattle.rules.specs.Sheets.{entry-at}
+use Rattle.rules.specs.Updates.{entry-at}
 use Rattle.rules.specs.Updates.{entry-sound}
 use Rattle.rules.proofs.Counted.{counted-not}
 use Rattle.rules.proofs.Sheet.totals.Goals as goal

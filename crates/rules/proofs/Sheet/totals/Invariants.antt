@@ -1,6 +1,6 @@
 use Rattle.std.proofs.Common.{◌≡◌, ℕ, not}
 use Rattle.rules.specs.Search.{counted}
-use Rattle.rules.specs.Sheets.{entry-at}
+use Rattle.rules.specs.Updates.{entry-at}
 use Rattle.rules.specs.Updates.{entry-sound}
 use Rattle.rules.proofs.Sheet.totals.Given as goal
 

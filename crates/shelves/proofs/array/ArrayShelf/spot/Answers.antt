@@ -7,10 +7,10 @@ pub returns-then-place-self : goal.returns-then-place-self
 returns-then-place-self g c =
     let s = c.args.self.now in
     let is : Some _ ≡ array_spot s c.args.row c.args.place = search rules in
-    record { is = is; aimed = hit s c.args.row c.args.place _ is }
+    record { is = is; located = hit s c.args.row c.args.place _ is }
 
 pub returns-else-is_sized : goal.returns-else-is_sized
 returns-else-is_sized g c =
     let s = c.args.self.now in
     let is : None ≡ array_spot s c.args.row c.args.place = search rules in
-    record { is = is; aimed = missed s c.args.row c.args.place is }
+    record { is = is; located = missed s c.args.row c.args.place is }

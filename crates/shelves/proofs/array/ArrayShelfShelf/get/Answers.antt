@@ -7,4 +7,4 @@ pub returns-then-self-at-eq1 : goal.returns-then-self-at-eq1
 returns-then-self-at-eq1 g c =
     let s = c.args.self.now in
     ap Symbol c.read_at.ensures
-    ∙ got-symbol s.rows s.places s.symbols.now s.marks.now c.args.row c.args.place c.in-Some.at c.read_at.result c.in-Some.ensures.is c.in-Some.ensures.aimed.in-symbols c.if-self-at-eq1.true
+    ∙ got-symbol s.rows s.places s.symbols.now s.marks.now c.args.row c.args.place c.in-Some.at c.read_at.result c.in-Some.ensures.is c.in-Some.ensures.located.in-symbols c.if-self-at-eq1.true
