@@ -281,3 +281,6 @@ where
         Ok(self.sheet.first_unsound(self.rows()))
     }
 }
+
+#[cfg(test)]
+mod tests;
