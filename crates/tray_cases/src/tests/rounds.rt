@@ -90,5 +90,12 @@ fn a_round_over_sixty_eight_rows(rt: HostRuntime) -> Result<(), Fail> {
     assert_eq!(rt; tray.step(), Err(Refusal::WrongPhase));
     assert_eq!(rt; tray.totals(), Ok((68, 0)));
     assert_eq!(rt; tray.record(67), Ok(Entry::Read(Verdict::Sound)));
+    assert_eq!(rt; tray.cross(), Ok(()));
+    // parity rows 1 and 3 hold their coefficients of row 63 times 9
+    let mut buffer = [Byte(0)];
+    assert_eq!(rt; tray.read(65, 0, &mut buffer), Ok(()));
+    assert_eq!(rt; buffer, [Byte(98)]);
+    assert_eq!(rt; tray.read(67, 0, &mut buffer), Ok(()));
+    assert_eq!(rt; buffer, [Byte(185)]);
     Ok(())
 }
