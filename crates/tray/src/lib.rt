@@ -321,3 +321,6 @@ where
         Ok(damage.count)
     }
 }
+
+#[cfg(test)]
+mod tests;

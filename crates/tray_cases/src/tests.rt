@@ -1,3 +1,8 @@
+mod calls;
+mod rounds;
+mod writes;
+
+use algebra::Field;
 use byte_field::Byte;
 use counter_field::Counter;
 use rules::{Refusal, Sizes};
@@ -112,6 +117,22 @@ fn intake_puts_every_card_once(rt: HostRuntime) {
     }
 }
 
+// The example's tray, taken in over this memory.
+fn example<'a>(symbols: &'a mut [Byte], marks: &'a mut [u8]) -> Tray<ArrayShelf<'a, Byte>> {
+    let mut tray = Tray::over(ArrayShelf::over(4, 5, symbols, marks), sizes(2, 2, 3, 2));
+    let _ = tray.intake();
+    tray
+}
+
+// What stands in the memory of a tray of the example's sizes.
+fn numbers<F: Field>(symbols: &[F; 20]) -> [usize; 20] {
+    let mut numbers = [0; 20];
+    for at in 0..20 {
+        numbers[at] = symbols[at].number();
+    }
+    numbers
+}
+
 // What intake answers to the example with one symbol or one mark changed.
 fn answer(at: usize, symbol: u8, mark: u8) -> Result<(), Refusal> {
     let mut symbols = EXAMPLE;
@@ -135,4 +156,32 @@ fn intake_names_the_first_fault(rt: HostRuntime) {
     assert_eq!(rt; answer(16, 80, 1), Err(Refusal::Misfit(3, 1)));
     assert_eq!(rt; answer(2, 4, 1), Err(Refusal::Misfit(2, 2)));
     assert_eq!(rt; answer(3, 77, 0), Ok(()));
+}
+
+#[test]
+fn intake_names_the_lowest_row_and_then_the_lowest_place(rt: HostRuntime) {
+    let mut symbols = EXAMPLE;
+    let mut marks = MARKS;
+    symbols[12] = Byte(4);
+    symbols[15] = Byte(0);
+    let mut tray = Tray::over(
+        ArrayShelf::over(4, 5, &mut symbols, &mut marks),
+        sizes(2, 2, 3, 2),
+    );
+    assert_eq!(rt; tray.intake(), Err(Refusal::Misfit(2, 2)));
+    assert_eq!(rt; tray.intake(), Err(Refusal::Misfit(2, 2)));
+}
+
+#[test]
+fn intake_looks_for_holes_first(rt: HostRuntime) {
+    let mut symbols = EXAMPLE;
+    let mut marks = MARKS;
+    symbols[10] = Byte(0);
+    marks[12] = 0;
+    marks[15] = 0;
+    let mut tray = Tray::over(
+        ArrayShelf::over(4, 5, &mut symbols, &mut marks),
+        sizes(2, 2, 3, 2),
+    );
+    assert_eq!(rt; tray.intake(), Err(Refusal::Unreadable(2, 2)));
 }
