@@ -1,7 +1,7 @@
 // A bench: a tray over a shelf that can be taken out, damaged and put back between calls.
 use algebra::Field;
 use own_shelf::OwnShelf;
-use rules::{Refusal, Sizes};
+use rules::{Refusal, Sizes, Verdict};
 use shelves::{Got, Shelf};
 use std::alloc::{AllocError, Global};
 use tray::Tray;
@@ -52,24 +52,29 @@ fn damage_shelf<F: Field>(shelf: &mut OwnShelf<F>, row: usize, damage: Damage) {
 }
 
 impl<F: Field> Bench<F> {
-    // A tray of these sizes over a shelf where every place is a hole, but for the blocks.
+    // A tray of these sizes over a shelf of zeros, every place with this mark.
+    pub fn over_zeros(heap: Global, sizes: Sizes, mark: u8) -> Result<Bench<F>, AllocError> {
+        let rows = sizes.data_rows.saturating_add(sizes.parity_rows);
+        let places = sizes.block_length.saturating_add(sizes.card_length);
+        let symbols = vec![in heap; F::zero(); rows.saturating_mul(places)]?;
+        let marks = vec![in heap; mark; rows.saturating_mul(places)]?;
+        let tray = Tray::over(OwnShelf::over(rows, places, symbols, marks), sizes);
+        Ok(Bench { tray, sizes, heap })
+    }
+
+    // A tray with these blocks; every card place is a hole.
     pub fn with_blocks(
         heap: Global,
         sizes: Sizes,
         blocks: &[&[usize]],
     ) -> Result<Bench<F>, AllocError> {
-        let rows = sizes.data_rows.saturating_add(sizes.parity_rows);
-        let places = sizes.block_length.saturating_add(sizes.card_length);
-        let symbols = vec![in heap; F::zero(); rows.saturating_mul(places)]?;
-        let marks = vec![in heap; 0; rows.saturating_mul(places)]?;
-        let mut shelf = OwnShelf::over(rows, places, symbols, marks);
+        let mut bench = Bench::over_zeros(heap, sizes, 0)?;
         for (row, block) in blocks.iter().enumerate() {
             for (place, number) in block.iter().enumerate() {
-                let _ = shelf.put(row, place, element(*number));
+                bench.damage(row, Damage::Put(place, *number));
             }
         }
-        let tray = Tray::over(shelf, sizes);
-        Ok(Bench { tray, sizes, heap })
+        Ok(bench)
     }
 
     pub fn rows(&self) -> usize {
@@ -133,6 +138,10 @@ impl<F: Field> Bench<F> {
         Ok(now.as_slice() == before)
     }
 
+    pub fn all_sound(&self) -> bool {
+        (0..self.rows()).all(|row| self.tray.audit(row) == Ok(Verdict::Sound))
+    }
+
     // Puts a row as it was, from the numbers of all symbols.
     pub fn restore(&mut self, row: usize, all: &[Option<usize>]) {
         let places = self.sizes.block_length.saturating_add(self.sizes.card_length);
@@ -141,6 +150,12 @@ impl<F: Field> Bench<F> {
             if let Some(Some(number)) = all.get(at) {
                 self.damage(row, Damage::Put(place, *number));
             }
+        }
+    }
+
+    pub fn restore_all(&mut self, all: &[Option<usize>]) {
+        for row in 0..self.rows() {
+            self.restore(row, all);
         }
     }
 }

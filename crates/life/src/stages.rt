@@ -4,21 +4,38 @@ use crate::tell;
 use algebra::Field;
 
 pub fn take_in<F: Field>(rt: &HostRuntime, bench: &mut Bench<F>) -> anyhow::Result<()> {
+    tell::done(rt, "fit", bench.tray.fit())?;
     tell::done(rt, "begin", bench.tray.begin())?;
+    tell::counted(rt, "mend", bench.tray.mend())?;
     tell::done(rt, "intake", bench.tray.intake())?;
     tell::shelf(rt, bench)?;
     tell::done(rt, "intake", bench.tray.intake())
 }
 
-pub fn write<F: Field>(
+fn write<F: Field>(
     rt: &HostRuntime,
     bench: &mut Bench<F>,
     row: usize,
     start: usize,
     numbers: &[usize],
 ) -> anyhow::Result<()> {
-    tell::numbers(rt, "written to", row, numbers)?;
+    tell::numbers(rt, "new symbols for", row, numbers)?;
+    println!(rt; "from place {start} on")?;
     tell::done(rt, "write", bench.write(row, start, numbers)?)
+}
+
+// Writes that are accepted, and two that are not.
+pub fn writes<F: Field>(
+    rt: &HostRuntime,
+    bench: &mut Bench<F>,
+    numbers: &[usize],
+) -> anyhow::Result<()> {
+    write(rt, bench, 0, 1, numbers)?;
+    write(rt, bench, 1, 0, numbers)?;
+    tell::shelf(rt, bench)?;
+    write(rt, bench, 0, bench.sizes.block_length, &[])?;
+    write(rt, bench, 0, bench.sizes.block_length, numbers)?;
+    write(rt, bench, bench.sizes.data_rows, 0, numbers)
 }
 
 // A full round, with what it found.
@@ -31,20 +48,6 @@ pub fn round<F: Field>(rt: &HostRuntime, bench: &mut Bench<F>) -> anyhow::Result
     tell::verdict(rt, "step at", bench.rows(), bench.tray.step())?;
     tell::totals(rt, bench)?;
     tell::first(rt, bench)
-}
-
-fn compare<F: Field>(
-    rt: &HostRuntime,
-    bench: &mut Bench<F>,
-    before: &[Option<usize>],
-) -> anyhow::Result<()> {
-    if bench.is_as(before)? {
-        println!(rt; "all rows are as before")?;
-    } else {
-        println!(rt; "not all rows are as before")?;
-        tell::shelf(rt, bench)?;
-    }
-    Ok(())
 }
 
 // Damages one row, asks every call that looks at it, and mends. A write of no symbols changes nothing, but it audits.
@@ -60,8 +63,7 @@ fn suffer<F: Field>(
     tell::read(rt, bench, row)?;
     tell::done(rt, "write of no symbols to row 0", bench.write(0, 0, &[])?)?;
     tell::done(rt, "cross", bench.tray.cross())?;
-    tell::counted(rt, "mend", bench.tray.mend())?;
-    compare(rt, bench, &before)
+    tell::mend(rt, bench, &before)
 }
 
 // One row at a time, damaged in each way.
@@ -75,7 +77,7 @@ pub fn each_damage<F: Field>(rt: &HostRuntime, bench: &mut Bench<F>) -> anyhow::
     println!(rt; "a wrong card component")?;
     suffer(rt, bench, k, Damage::Wrong(n.saturating_add(1), 1))?;
     for count in 1..=bench.sizes.card_length {
-        println!(rt; "{count} wrong symbols in a block")?;
+        println!(rt; "wrong symbols in a block: {count}")?;
         suffer(rt, bench, count % 2, Damage::Wrong(0, count))?;
     }
     Ok(())
@@ -89,8 +91,7 @@ pub fn found_by_a_round<F: Field>(rt: &HostRuntime, bench: &mut Bench<F>) -> any
     bench.damage(1, Damage::Hole(0));
     bench.damage(parity, Damage::Wrong(1, 1));
     round(rt, bench)?;
-    tell::counted(rt, "mend", bench.tray.mend())?;
-    compare(rt, bench, &before)?;
+    tell::mend(rt, bench, &before)?;
     tell::record(rt, bench, 0)?;
     tell::record(rt, bench, 1)?;
     tell::first(rt, bench)?;
@@ -108,8 +109,7 @@ pub fn too_many<F: Field>(rt: &HostRuntime, bench: &mut Bench<F>) -> anyhow::Res
     tell::counted(rt, "mend", bench.tray.mend())?;
     tell::shelf(rt, bench)?;
     bench.restore(0, &before);
-    tell::counted(rt, "mend", bench.tray.mend())?;
-    compare(rt, bench, &before)
+    tell::mend(rt, bench, &before)
 }
 
 // Row 0 holds what row 1 holds. It is sound, and parity does not fit; beside a lost row too.
@@ -128,6 +128,21 @@ pub fn stale_row<F: Field>(rt: &HostRuntime, bench: &mut Bench<F>) -> anyhow::Re
     tell::counted(rt, "mend", bench.tray.mend())?;
     tell::shelf(rt, bench)?;
     bench.restore(0, &before);
+    tell::mend(rt, bench, &before)
+}
+
+// Parity row 1 is as it was before a write at place 2. It is sound, and does not fit there; beside a lost row too.
+pub fn stale_parity<F: Field>(rt: &HostRuntime, bench: &mut Bench<F>) -> anyhow::Result<()> {
+    println!(rt; "parity row 1 is as before a write")?;
+    let old = bench.all()?;
+    write(rt, bench, 1, 2, &[9])?;
+    let before = bench.all()?;
+    let row = bench.sizes.data_rows.saturating_add(1);
+    bench.restore(row, &old);
+    tell::verdict(rt, "audit of", row, bench.tray.audit(row))?;
     tell::counted(rt, "mend", bench.tray.mend())?;
-    compare(rt, bench, &before)
+    bench.damage(0, Damage::Hole(1));
+    tell::counted(rt, "mend", bench.tray.mend())?;
+    bench.damage(row, Damage::Hole(0));
+    tell::mend(rt, bench, &before)
 }

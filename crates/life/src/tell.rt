@@ -90,17 +90,46 @@ pub fn read<F: Field>(rt: &HostRuntime, bench: &Bench<F>, row: usize) -> anyhow:
     numbers(rt, "read of", row, &read)
 }
 
-// What stands on the shelf, a hole as a dash.
-pub fn shelf<F: Field>(rt: &HostRuntime, bench: &mut Bench<F>) -> anyhow::Result<()> {
-    for row in 0..bench.rows() {
-        print!(rt; "row {row}:")?;
-        for number in &bench.row(row)? {
-            match number {
-                Some(number) => print!(rt; " {number}")?,
-                None => print!(rt; " -")?,
-            }
+// What stands in a row, a hole as a dash.
+pub fn row<F: Field>(rt: &HostRuntime, bench: &mut Bench<F>, row: usize) -> anyhow::Result<()> {
+    print!(rt; "row {row}:")?;
+    for number in &bench.row(row)? {
+        match number {
+            Some(number) => print!(rt; " {number}")?,
+            None => print!(rt; " -")?,
         }
-        println!(rt)?;
+    }
+    println!(rt)?;
+    Ok(())
+}
+
+pub fn shelf<F: Field>(rt: &HostRuntime, bench: &mut Bench<F>) -> anyhow::Result<()> {
+    for at in 0..bench.rows() {
+        row(rt, bench, at)?;
     }
     Ok(())
+}
+
+// Whether every row is as before; the rows, where not.
+pub fn compared<F: Field>(
+    rt: &HostRuntime,
+    bench: &mut Bench<F>,
+    before: &[Option<usize>],
+) -> anyhow::Result<()> {
+    if bench.is_as(before)? {
+        println!(rt; "all rows are as before")?;
+        return Ok(());
+    }
+    println!(rt; "not all rows are as before")?;
+    shelf(rt, bench)
+}
+
+// The mend call, and whether it left every row as before.
+pub fn mend<F: Field>(
+    rt: &HostRuntime,
+    bench: &mut Bench<F>,
+    before: &[Option<usize>],
+) -> anyhow::Result<()> {
+    counted(rt, "mend", bench.tray.mend())?;
+    compared(rt, bench, before)
 }
