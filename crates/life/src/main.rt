@@ -11,6 +11,7 @@ use bench::Bench;
 use byte_field::Byte;
 use counter_field::Counter;
 use rules::Sizes;
+use std::io;
 
 const BYTE_SIZES: Sizes = Sizes {
     data_rows: 2,
@@ -42,7 +43,7 @@ fn life<F: Field>(
     rt: &HostRuntime,
     bench: &mut Bench<F>,
     written: &[usize],
-) -> anyhow::Result<()> {
+) -> io::Result<()> {
     stages::take_in(rt, bench)?;
     stages::writes(rt, bench, written)?;
     stages::round(rt, bench)?;
@@ -53,7 +54,7 @@ fn life<F: Field>(
     stages::stale_parity(rt, bench)
 }
 
-fn byte_life(rt: &HostRuntime) -> anyhow::Result<()> {
+fn byte_life(rt: &HostRuntime) -> io::Result<()> {
     println!(rt; "byte field")?;
     let mut bench: Bench<Byte> = Bench::with_blocks(rt.alloc(), BYTE_SIZES, &BYTE_BLOCKS)?;
     life(rt, &mut bench, &[7])?;
@@ -61,14 +62,14 @@ fn byte_life(rt: &HostRuntime) -> anyhow::Result<()> {
     mends::widest(rt)
 }
 
-fn counter_life(rt: &HostRuntime) -> anyhow::Result<()> {
+fn counter_life(rt: &HostRuntime) -> io::Result<()> {
     println!(rt; "counter field")?;
     let mut bench: Bench<Counter> = Bench::with_blocks(rt.alloc(), COUNTER_SIZES, &COUNTER_BLOCKS)?;
     life(rt, &mut bench, &[65_536, 5])?;
     mends::mends::<Counter>(rt)
 }
 
-fn main(rt: HostRuntime) -> anyhow::Result<()> {
+fn main(rt: HostRuntime) -> io::Result<()> {
     byte_life(&rt)?;
     counter_life(&rt)
 }

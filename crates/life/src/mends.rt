@@ -5,6 +5,7 @@ use algebra::Field;
 use byte_field::Byte;
 use rules::{Refusal, Sizes};
 use std::alloc::{AllocError, Global};
+use std::io;
 
 // A number for each row and place, in both fields.
 fn filling<F: Field>(row: usize, place: usize) -> usize {
@@ -95,7 +96,7 @@ fn tally<F: Field>(
 }
 
 // All sets of damaged rows of a tray with three data rows.
-fn all_sets<F: Field>(rt: &HostRuntime, parity_rows: usize) -> anyhow::Result<()> {
+fn all_sets<F: Field>(rt: &HostRuntime, parity_rows: usize) -> io::Result<()> {
     let sizes = Sizes {
         data_rows: 3,
         parity_rows,
@@ -113,7 +114,7 @@ fn all_sets<F: Field>(rt: &HostRuntime, parity_rows: usize) -> anyhow::Result<()
     Ok(())
 }
 
-pub fn mends<F: Field>(rt: &HostRuntime) -> anyhow::Result<()> {
+pub fn mends<F: Field>(rt: &HostRuntime) -> io::Result<()> {
     for parity_rows in 1..=4usize {
         all_sets::<F>(rt, parity_rows)?;
     }
@@ -121,7 +122,7 @@ pub fn mends<F: Field>(rt: &HostRuntime) -> anyhow::Result<()> {
 }
 
 // As many rows as there can be, with a set of lost rows that other coefficients could not rebuild.
-pub fn widest(rt: &HostRuntime) -> anyhow::Result<()> {
+pub fn widest(rt: &HostRuntime) -> io::Result<()> {
     let sizes = Sizes {
         data_rows: 64,
         parity_rows: 4,
