@@ -39,16 +39,13 @@ const COUNTER_BLOCKS: [&[usize]; 7] = [
     &[24_681, 10_362, 10, 61_692, 32_789],
 ];
 
-fn life<F: Field>(
-    rt: &HostRuntime,
-    bench: &mut Bench<F>,
-    written: &[usize],
-) -> io::Result<()> {
+fn life<F: Field>(rt: &HostRuntime, bench: &mut Bench<F>, written: &[usize]) -> io::Result<()> {
     stages::take_in(rt, bench)?;
     stages::writes(rt, bench, written)?;
     stages::round(rt, bench)?;
     stages::each_damage(rt, bench)?;
     stages::found_by_a_round(rt, bench)?;
+    stages::without_shelf(rt, bench)?;
     stages::too_many(rt, bench)?;
     stages::stale_row(rt, bench)?;
     stages::stale_parity(rt, bench)

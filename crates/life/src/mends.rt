@@ -10,7 +10,11 @@ use std::io;
 // A number for each row and place, in both fields.
 fn filling<F: Field>(row: usize, place: usize) -> usize {
     let number = (row % 68 * 20_011 + place % 255 * 30_013 + 65_535) % 65_537;
-    if number < F::order() { number } else { number % 251 }
+    if number < F::order() {
+        number
+    } else {
+        number % 251
+    }
 }
 
 // A tray of zeros, taken in, whose data rows are then written.
@@ -129,7 +133,9 @@ pub fn widest(rt: &HostRuntime) -> io::Result<()> {
         block_length: 3,
         card_length: 2,
     };
-    println!(rt; "byte field, 64 data rows, 4 parity rows; rows 0, 1, 2, 25 and 66 are lost, and row 2 comes back")?;
+    println!(rt;
+        "byte field, 64 data rows, 4 parity rows; rows 0, 1, 2, 25 and 66 are lost, and row 2 comes back"
+    )?;
     let mut bench: Bench<Byte> = filled(rt.alloc(), sizes)?;
     for row in [0, 1, 25, 64, 65, 66, 67] {
         tell::row(rt, &mut bench, row)?;

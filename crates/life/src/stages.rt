@@ -100,6 +100,18 @@ pub fn found_by_a_round<F: Field>(rt: &HostRuntime, bench: &mut Bench<F>) -> io:
     round(rt, bench)
 }
 
+// With the shelf taken out, every call finds that the tray does not fit.
+pub fn without_shelf<F: Field>(rt: &HostRuntime, bench: &mut Bench<F>) -> io::Result<()> {
+    println!(rt; "the shelf is taken out")?;
+    let before = bench.all()?;
+    let shelf = bench.take_shelf();
+    tell::done(rt, "fit", bench.tray.fit())?;
+    tell::counted(rt, "mend", bench.tray.mend())?;
+    bench.put_back(shelf);
+    println!(rt; "the shelf is put back")?;
+    tell::mend(rt, bench, &before)
+}
+
 // One damaged row more than there are parity rows; then one of them comes back.
 pub fn too_many<F: Field>(rt: &HostRuntime, bench: &mut Bench<F>) -> io::Result<()> {
     println!(rt; "one damaged row too many")?;
