@@ -144,7 +144,10 @@ impl<F: Field> Bench<F> {
 
     // Puts a row as it was, from the numbers of all symbols.
     pub fn restore(&mut self, row: usize, all: &[Option<usize>]) {
-        let places = self.sizes.block_length.saturating_add(self.sizes.card_length);
+        let places = self
+            .sizes
+            .block_length
+            .saturating_add(self.sizes.card_length);
         for place in 0..places {
             let at = row.saturating_mul(places).saturating_add(place);
             if let Some(Some(number)) = all.get(at) {

@@ -11,6 +11,7 @@ use bench::Bench;
 use byte_field::Byte;
 use counter_field::Counter;
 use rules::Sizes;
+use std::io;
 
 const BYTE_SIZES: Sizes = Sizes {
     data_rows: 2,
@@ -38,22 +39,19 @@ const COUNTER_BLOCKS: [&[usize]; 7] = [
     &[24_681, 10_362, 10, 61_692, 32_789],
 ];
 
-fn life<F: Field>(
-    rt: &HostRuntime,
-    bench: &mut Bench<F>,
-    written: &[usize],
-) -> anyhow::Result<()> {
+fn life<F: Field>(rt: &HostRuntime, bench: &mut Bench<F>, written: &[usize]) -> io::Result<()> {
     stages::take_in(rt, bench)?;
     stages::writes(rt, bench, written)?;
     stages::round(rt, bench)?;
     stages::each_damage(rt, bench)?;
     stages::found_by_a_round(rt, bench)?;
+    stages::without_shelf(rt, bench)?;
     stages::too_many(rt, bench)?;
     stages::stale_row(rt, bench)?;
     stages::stale_parity(rt, bench)
 }
 
-fn byte_life(rt: &HostRuntime) -> anyhow::Result<()> {
+fn byte_life(rt: &HostRuntime) -> io::Result<()> {
     println!(rt; "byte field")?;
     let mut bench: Bench<Byte> = Bench::with_blocks(rt.alloc(), BYTE_SIZES, &BYTE_BLOCKS)?;
     life(rt, &mut bench, &[7])?;
@@ -61,14 +59,14 @@ fn byte_life(rt: &HostRuntime) -> anyhow::Result<()> {
     mends::widest(rt)
 }
 
-fn counter_life(rt: &HostRuntime) -> anyhow::Result<()> {
+fn counter_life(rt: &HostRuntime) -> io::Result<()> {
     println!(rt; "counter field")?;
     let mut bench: Bench<Counter> = Bench::with_blocks(rt.alloc(), COUNTER_SIZES, &COUNTER_BLOCKS)?;
     life(rt, &mut bench, &[65_536, 5])?;
     mends::mends::<Counter>(rt)
 }
 
-fn main(rt: HostRuntime) -> anyhow::Result<()> {
+fn main(rt: HostRuntime) -> io::Result<()> {
     byte_life(&rt)?;
     counter_life(&rt)
 }

@@ -5,11 +5,16 @@ use algebra::Field;
 use byte_field::Byte;
 use rules::{Refusal, Sizes};
 use std::alloc::{AllocError, Global};
+use std::io;
 
 // A number for each row and place, in both fields.
 fn filling<F: Field>(row: usize, place: usize) -> usize {
     let number = (row % 68 * 20_011 + place % 255 * 30_013 + 65_535) % 65_537;
-    if number < F::order() { number } else { number % 251 }
+    if number < F::order() {
+        number
+    } else {
+        number % 251
+    }
 }
 
 // A tray of zeros, taken in, whose data rows are then written.
@@ -95,7 +100,7 @@ fn tally<F: Field>(
 }
 
 // All sets of damaged rows of a tray with three data rows.
-fn all_sets<F: Field>(rt: &HostRuntime, parity_rows: usize) -> anyhow::Result<()> {
+fn all_sets<F: Field>(rt: &HostRuntime, parity_rows: usize) -> io::Result<()> {
     let sizes = Sizes {
         data_rows: 3,
         parity_rows,
@@ -113,7 +118,7 @@ fn all_sets<F: Field>(rt: &HostRuntime, parity_rows: usize) -> anyhow::Result<()
     Ok(())
 }
 
-pub fn mends<F: Field>(rt: &HostRuntime) -> anyhow::Result<()> {
+pub fn mends<F: Field>(rt: &HostRuntime) -> io::Result<()> {
     for parity_rows in 1..=4usize {
         all_sets::<F>(rt, parity_rows)?;
     }
@@ -121,14 +126,16 @@ pub fn mends<F: Field>(rt: &HostRuntime) -> anyhow::Result<()> {
 }
 
 // As many rows as there can be, with a set of lost rows that other coefficients could not rebuild.
-pub fn widest(rt: &HostRuntime) -> anyhow::Result<()> {
+pub fn widest(rt: &HostRuntime) -> io::Result<()> {
     let sizes = Sizes {
         data_rows: 64,
         parity_rows: 4,
         block_length: 3,
         card_length: 2,
     };
-    println!(rt; "byte field, 64 data rows, 4 parity rows; rows 0, 1, 2, 25 and 66 are lost, and row 2 comes back")?;
+    println!(rt;
+        "byte field, 64 data rows, 4 parity rows; rows 0, 1, 2, 25 and 66 are lost, and row 2 comes back"
+    )?;
     let mut bench: Bench<Byte> = filled(rt.alloc(), sizes)?;
     for row in [0, 1, 25, 64, 65, 66, 67] {
         tell::row(rt, &mut bench, row)?;

@@ -2,8 +2,9 @@
 use crate::bench::{Bench, Damage};
 use crate::tell;
 use algebra::Field;
+use std::io;
 
-pub fn take_in<F: Field>(rt: &HostRuntime, bench: &mut Bench<F>) -> anyhow::Result<()> {
+pub fn take_in<F: Field>(rt: &HostRuntime, bench: &mut Bench<F>) -> io::Result<()> {
     tell::done(rt, "fit", bench.tray.fit())?;
     tell::done(rt, "begin", bench.tray.begin())?;
     tell::counted(rt, "mend", bench.tray.mend())?;
@@ -18,7 +19,7 @@ fn write<F: Field>(
     row: usize,
     start: usize,
     numbers: &[usize],
-) -> anyhow::Result<()> {
+) -> io::Result<()> {
     tell::numbers(rt, "new symbols for", row, numbers)?;
     println!(rt; "from place {start} on")?;
     tell::done(rt, "write", bench.write(row, start, numbers)?)
@@ -29,7 +30,7 @@ pub fn writes<F: Field>(
     rt: &HostRuntime,
     bench: &mut Bench<F>,
     numbers: &[usize],
-) -> anyhow::Result<()> {
+) -> io::Result<()> {
     write(rt, bench, 0, 1, numbers)?;
     write(rt, bench, 1, 0, numbers)?;
     tell::shelf(rt, bench)?;
@@ -39,7 +40,7 @@ pub fn writes<F: Field>(
 }
 
 // A full round, with what it found.
-pub fn round<F: Field>(rt: &HostRuntime, bench: &mut Bench<F>) -> anyhow::Result<()> {
+pub fn round<F: Field>(rt: &HostRuntime, bench: &mut Bench<F>) -> io::Result<()> {
     tell::done(rt, "begin", bench.tray.begin())?;
     for row in 0..bench.rows() {
         tell::done(rt, "begin", bench.tray.begin())?;
@@ -56,7 +57,7 @@ fn suffer<F: Field>(
     bench: &mut Bench<F>,
     row: usize,
     damage: Damage,
-) -> anyhow::Result<()> {
+) -> io::Result<()> {
     let before = bench.all()?;
     bench.damage(row, damage);
     tell::verdict(rt, "audit of", row, bench.tray.audit(row))?;
@@ -67,7 +68,7 @@ fn suffer<F: Field>(
 }
 
 // One row at a time, damaged in each way.
-pub fn each_damage<F: Field>(rt: &HostRuntime, bench: &mut Bench<F>) -> anyhow::Result<()> {
+pub fn each_damage<F: Field>(rt: &HostRuntime, bench: &mut Bench<F>) -> io::Result<()> {
     let n = bench.sizes.block_length;
     let k = bench.sizes.data_rows;
     println!(rt; "a hole in a block")?;
@@ -84,7 +85,7 @@ pub fn each_damage<F: Field>(rt: &HostRuntime, bench: &mut Bench<F>) -> anyhow::
 }
 
 // A round finds two damaged rows. They are mended, and only the next round forgets them.
-pub fn found_by_a_round<F: Field>(rt: &HostRuntime, bench: &mut Bench<F>) -> anyhow::Result<()> {
+pub fn found_by_a_round<F: Field>(rt: &HostRuntime, bench: &mut Bench<F>) -> io::Result<()> {
     println!(rt; "a hole and a wrong symbol, and a round")?;
     let before = bench.all()?;
     let parity = bench.sizes.data_rows;
@@ -99,8 +100,20 @@ pub fn found_by_a_round<F: Field>(rt: &HostRuntime, bench: &mut Bench<F>) -> any
     round(rt, bench)
 }
 
+// With the shelf taken out, every call finds that the tray does not fit.
+pub fn without_shelf<F: Field>(rt: &HostRuntime, bench: &mut Bench<F>) -> io::Result<()> {
+    println!(rt; "the shelf is taken out")?;
+    let before = bench.all()?;
+    let shelf = bench.take_shelf();
+    tell::done(rt, "fit", bench.tray.fit())?;
+    tell::counted(rt, "mend", bench.tray.mend())?;
+    bench.put_back(shelf);
+    println!(rt; "the shelf is put back")?;
+    tell::mend(rt, bench, &before)
+}
+
 // One damaged row more than there are parity rows; then one of them comes back.
-pub fn too_many<F: Field>(rt: &HostRuntime, bench: &mut Bench<F>) -> anyhow::Result<()> {
+pub fn too_many<F: Field>(rt: &HostRuntime, bench: &mut Bench<F>) -> io::Result<()> {
     println!(rt; "one damaged row too many")?;
     let before = bench.all()?;
     for row in 0..=bench.sizes.parity_rows {
@@ -113,7 +126,7 @@ pub fn too_many<F: Field>(rt: &HostRuntime, bench: &mut Bench<F>) -> anyhow::Res
 }
 
 // Row 0 holds what row 1 holds. It is sound, and parity does not fit; beside a lost row too.
-pub fn stale_row<F: Field>(rt: &HostRuntime, bench: &mut Bench<F>) -> anyhow::Result<()> {
+pub fn stale_row<F: Field>(rt: &HostRuntime, bench: &mut Bench<F>) -> io::Result<()> {
     println!(rt; "row 0 holds what row 1 holds")?;
     let before = bench.all()?;
     for (place, number) in bench.row(1)?.iter().enumerate() {
@@ -132,7 +145,7 @@ pub fn stale_row<F: Field>(rt: &HostRuntime, bench: &mut Bench<F>) -> anyhow::Re
 }
 
 // Parity row 1 is as it was before a write at place 2. It is sound, and does not fit there; beside a lost row too.
-pub fn stale_parity<F: Field>(rt: &HostRuntime, bench: &mut Bench<F>) -> anyhow::Result<()> {
+pub fn stale_parity<F: Field>(rt: &HostRuntime, bench: &mut Bench<F>) -> io::Result<()> {
     println!(rt; "parity row 1 is as before a write")?;
     let old = bench.all()?;
     write(rt, bench, 1, 2, &[9])?;

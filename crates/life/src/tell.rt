@@ -2,8 +2,9 @@
 use crate::bench::Bench;
 use algebra::Field;
 use rules::{Entry, Refusal, Verdict};
+use std::io;
 
-pub fn done(rt: &HostRuntime, call: &str, answer: Result<(), Refusal>) -> anyhow::Result<()> {
+pub fn done(rt: &HostRuntime, call: &str, answer: Result<(), Refusal>) -> io::Result<()> {
     match answer {
         Ok(()) => println!(rt; "{call}: done")?,
         Err(refusal) => println!(rt; "{call}: refused {refusal}")?,
@@ -11,7 +12,7 @@ pub fn done(rt: &HostRuntime, call: &str, answer: Result<(), Refusal>) -> anyhow
     Ok(())
 }
 
-pub fn counted(rt: &HostRuntime, call: &str, answer: Result<usize, Refusal>) -> anyhow::Result<()> {
+pub fn counted(rt: &HostRuntime, call: &str, answer: Result<usize, Refusal>) -> io::Result<()> {
     match answer {
         Ok(count) => println!(rt; "{call}: {count}")?,
         Err(refusal) => println!(rt; "{call}: refused {refusal}")?,
@@ -19,7 +20,7 @@ pub fn counted(rt: &HostRuntime, call: &str, answer: Result<usize, Refusal>) -> 
     Ok(())
 }
 
-fn found(rt: &HostRuntime, call: &str, row: usize, verdict: Verdict) -> anyhow::Result<()> {
+fn found(rt: &HostRuntime, call: &str, row: usize, verdict: Verdict) -> io::Result<()> {
     match verdict {
         Verdict::Sound => println!(rt; "{call} row {row}: sound")?,
         Verdict::Hole(place) => println!(rt; "{call} row {row}: hole at {place}")?,
@@ -33,7 +34,7 @@ pub fn verdict(
     call: &str,
     row: usize,
     answer: Result<Verdict, Refusal>,
-) -> anyhow::Result<()> {
+) -> io::Result<()> {
     match answer {
         Ok(verdict) => found(rt, call, row, verdict)?,
         Err(refusal) => println!(rt; "{call} row {row}: refused {refusal}")?,
@@ -41,7 +42,7 @@ pub fn verdict(
     Ok(())
 }
 
-pub fn record<F: Field>(rt: &HostRuntime, bench: &Bench<F>, row: usize) -> anyhow::Result<()> {
+pub fn record<F: Field>(rt: &HostRuntime, bench: &Bench<F>, row: usize) -> io::Result<()> {
     match bench.tray.record(row) {
         Ok(Entry::Unread) => println!(rt; "record of row {row}: unread")?,
         Ok(Entry::Read(verdict)) => found(rt, "record of", row, verdict)?,
@@ -50,7 +51,7 @@ pub fn record<F: Field>(rt: &HostRuntime, bench: &Bench<F>, row: usize) -> anyho
     Ok(())
 }
 
-pub fn totals<F: Field>(rt: &HostRuntime, bench: &mut Bench<F>) -> anyhow::Result<()> {
+pub fn totals<F: Field>(rt: &HostRuntime, bench: &mut Bench<F>) -> io::Result<()> {
     match bench.tray.totals() {
         Ok((sound, others)) => println!(rt; "totals: {sound} sound, {others} not")?,
         Err(refusal) => println!(rt; "totals: refused {refusal}")?,
@@ -58,7 +59,7 @@ pub fn totals<F: Field>(rt: &HostRuntime, bench: &mut Bench<F>) -> anyhow::Resul
     Ok(())
 }
 
-pub fn first<F: Field>(rt: &HostRuntime, bench: &Bench<F>) -> anyhow::Result<()> {
+pub fn first<F: Field>(rt: &HostRuntime, bench: &Bench<F>) -> io::Result<()> {
     match bench.tray.first() {
         Ok(Some(row)) => println!(rt; "first: row {row}")?,
         Ok(None) => println!(rt; "first: none")?,
@@ -67,7 +68,7 @@ pub fn first<F: Field>(rt: &HostRuntime, bench: &Bench<F>) -> anyhow::Result<()>
     Ok(())
 }
 
-pub fn numbers(rt: &HostRuntime, what: &str, row: usize, all: &[usize]) -> anyhow::Result<()> {
+pub fn numbers(rt: &HostRuntime, what: &str, row: usize, all: &[usize]) -> io::Result<()> {
     print!(rt; "{what} row {row}:")?;
     for number in all {
         print!(rt; " {number}")?;
@@ -77,7 +78,7 @@ pub fn numbers(rt: &HostRuntime, what: &str, row: usize, all: &[usize]) -> anyho
 }
 
 // A read of a row's whole block.
-pub fn read<F: Field>(rt: &HostRuntime, bench: &Bench<F>, row: usize) -> anyhow::Result<()> {
+pub fn read<F: Field>(rt: &HostRuntime, bench: &Bench<F>, row: usize) -> io::Result<()> {
     let mut buffer = vec![in rt.alloc(); F::zero(); bench.sizes.block_length]?;
     if let Err(refusal) = bench.tray.read(row, 0, &mut buffer) {
         println!(rt; "read of row {row}: refused {refusal}")?;
@@ -91,7 +92,7 @@ pub fn read<F: Field>(rt: &HostRuntime, bench: &Bench<F>, row: usize) -> anyhow:
 }
 
 // What stands in a row, a hole as a dash.
-pub fn row<F: Field>(rt: &HostRuntime, bench: &mut Bench<F>, row: usize) -> anyhow::Result<()> {
+pub fn row<F: Field>(rt: &HostRuntime, bench: &mut Bench<F>, row: usize) -> io::Result<()> {
     print!(rt; "row {row}:")?;
     for number in &bench.row(row)? {
         match number {
@@ -103,7 +104,7 @@ pub fn row<F: Field>(rt: &HostRuntime, bench: &mut Bench<F>, row: usize) -> anyh
     Ok(())
 }
 
-pub fn shelf<F: Field>(rt: &HostRuntime, bench: &mut Bench<F>) -> anyhow::Result<()> {
+pub fn shelf<F: Field>(rt: &HostRuntime, bench: &mut Bench<F>) -> io::Result<()> {
     for at in 0..bench.rows() {
         row(rt, bench, at)?;
     }
@@ -115,7 +116,7 @@ pub fn compared<F: Field>(
     rt: &HostRuntime,
     bench: &mut Bench<F>,
     before: &[Option<usize>],
-) -> anyhow::Result<()> {
+) -> io::Result<()> {
     if bench.is_as(before)? {
         println!(rt; "all rows are as before")?;
         return Ok(());
@@ -129,7 +130,7 @@ pub fn mend<F: Field>(
     rt: &HostRuntime,
     bench: &mut Bench<F>,
     before: &[Option<usize>],
-) -> anyhow::Result<()> {
+) -> io::Result<()> {
     counted(rt, "mend", bench.tray.mend())?;
     compared(rt, bench, before)
 }

@@ -1,1 +1,2 @@
 pub mod Spots
+pub mod Holes

@@ -1,6 +1,6 @@
--- The contents of a shelf over memory of its own, by its fields.
-use Rattle.std.specs.Prelude.{ℕ, Option}
-use Rattle.shelves.specs.Contents.{Contents}
+-- The contents of a shelf over memory of its own, by its fields; and a place that is lost.
+use Rattle.std.specs.Prelude.{ℕ, Option, cond, ◌&&◌, ◌==◌}
+use Rattle.shelves.specs.Contents.{Contents, hole, filled}
 use Rattle.shelves.specs.Memory.{memory, spot_in}
 use Rattle.own_shelf.specs.declared.OwnShelf.{OwnShelf}
 
@@ -10,3 +10,7 @@ module _ {A : Type 0} (s : OwnShelf A) where
 
   abbrev pub own-spot : ℕ → ℕ → Option ℕ
   own-spot row place = spot_in s.rows s.places s.symbols.items s.marks.items row place
+
+-- the same contents with a hole at one place
+abbrev pub with-hole : {A : Type 0} → Contents A → ℕ → ℕ → Contents A
+with-hole s row place = filled s.rows s.places (λ r c. cond (r == row && c == place) hole (s.at r c))

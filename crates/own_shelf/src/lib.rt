@@ -3,8 +3,8 @@
 
 ghost use Rattle.std.specs.Prelude.{◌≡◌, ◌<◌, length, slice_index_or};
 ghost use Rattle.shelves.specs.Contents.{put-answer, after-put};
-ghost use Rattle.shelves.specs.Memory.{memory, put_in, sized};
-ghost use Rattle.own_shelf.specs.Own.{own-contents, own-spot};
+ghost use Rattle.shelves.specs.Memory.{memory, sized};
+ghost use Rattle.own_shelf.specs.Own.{own-contents, own-spot, with-hole};
 
 use shelves::{Got, Placed, Shelf};
 
@@ -60,15 +60,10 @@ impl<T: Copy> OwnShelf<T> {
 
     // Makes a hole, as damage does; the symbol stays in memory, unread.
     pub fn lose(&mut self, row: usize, place: usize)
-        ensures marks { self.new.marks.items ≡ put_in (own-spot self.old row place) 0 self.old.marks.items }
-        ensures symbols { self.new.symbols ≡ self.old.symbols }
-        ensures rows { self.new.rows ≡ self.old.rows }
-        ensures places { self.new.places ≡ self.old.places }
+        ensures { own-contents self.new ≡ with-hole (own-contents self.old) row place }
     {
         if let Some(at) = self.spot(row, place) {
-            if at < self.marks.len() {
-                self.marks[at] = 0;
-            }
+            self.marks[at] = 0;
         }
     }
 }
