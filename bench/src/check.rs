@@ -1,9 +1,10 @@
 //! Random runs on the core and on the model, and what the first difference comes down to.
 
 use crate::model::{Arithmetic, Call};
+use crate::law::Claims;
 use crate::proved::{outcome, Kind, Shelf};
 use crate::random::Random;
-use crate::runs::{expected, random_case, Case, Length, Outcome, Step};
+use crate::runs::{expected, followed, random_case, Case, Length, Outcome, Step};
 use std::collections::BTreeMap;
 use std::time::Instant;
 
@@ -51,12 +52,16 @@ struct Counts {
     calls: u64,
     damaged_bytes: u64,
     symbols: u64,
+    claims: Claims,
     answers: BTreeMap<(usize, String), u64>,
 }
 
 impl Counts {
-    fn add(&mut self, case: &Case, wanted: &Outcome) {
+    fn add(&mut self, case: &Case, wanted: &Outcome, claims: Claims) {
         self.runs += 1;
+        self.claims.audits += claims.audits;
+        self.claims.mends += claims.mends;
+        self.claims.broken += claims.broken;
         self.symbols += wanted.numbers.len() as u64;
         for (step, answer) in case.steps.iter().zip(&wanted.answers) {
             match step {
@@ -132,8 +137,12 @@ fn agrees(field: &Arithmetic, case: &Case, counts: &mut [Counts; 2]) -> bool {
     quiet.steps.retain(|step| matches!(step, Step::Call(_)));
     let mut agreed = true;
     for (at, (case, shelf)) in [(case, Shelf::Image), (&quiet, Shelf::Array)].into_iter().enumerate() {
-        let wanted = expected(field, case);
-        counts[at].add(case, &wanted);
+        let (wanted, claims) = followed(field, case);
+        counts[at].add(case, &wanted, claims);
+        if claims.broken > 0 {
+            println!("THE LAW IS BROKEN, {:?} field, k p n m = {:?}: {:?}", case.kind, case.sizes, case.steps);
+            agreed = false;
+        }
         if wanted != outcome(case, shelf) {
             show(field, case, shelf);
             agreed = false;
@@ -168,6 +177,7 @@ pub fn check(runs: u64, seed: u64) -> bool {
             counts.runs, counts.calls, counts.symbols, counts.damaged_bytes
         );
         counts.print();
+        println!("  the law over runs held at {} audits and {} mends", counts.claims.audits, counts.claims.mends);
     }
     println!("{differences} runs differ, in {:.1} s", started.elapsed().as_secs_f64());
     differences == 0

@@ -1,6 +1,7 @@
 //! Compares the proved core with a model written from docs/RULES.md, and times it.
 
 mod check;
+mod law;
 mod model;
 mod plain;
 mod proved;

@@ -1,5 +1,6 @@
 //! Random runs: a tray's sizes, an image, and a script of calls with damage between them.
 
+use crate::law::{Claims, Twin};
 use crate::model::{Answer, Arithmetic, Call, Tray, Verdict};
 use crate::proved::Kind;
 use crate::random::Random;
@@ -68,15 +69,16 @@ pub fn numbers_of(answer: Answer) -> [usize; 5] {
     }
 }
 
-/// What the model says of a run.
-pub fn expected(field: &Arithmetic, case: &Case) -> Outcome {
+/// What the model says of a run, and what the law claimed of it.
+pub fn followed(field: &Arithmetic, case: &Case) -> (Outcome, Claims) {
     let mut tray = Tray::new(field, case.sizes, case.image.clone());
+    let mut twin = Twin::new();
     let mut answers = Vec::new();
     let mut numbers = Vec::new();
     for step in &case.steps {
         match step {
             Step::Call(call) => {
-                let (answer, symbols) = tray.call(call);
+                let (answer, symbols) = twin.follow(field, &mut tray, call);
                 answers.push(numbers_of(answer));
                 numbers.extend(symbols);
             }
@@ -88,7 +90,12 @@ pub fn expected(field: &Arithmetic, case: &Case) -> Outcome {
             }
         }
     }
-    Outcome { answers, numbers, image: tray.image }
+    (Outcome { answers, numbers, image: tray.image }, twin.claims)
+}
+
+/// What the model says of a run.
+pub fn expected(field: &Arithmetic, case: &Case) -> Outcome {
+    followed(field, case).0
 }
 
 /// An image with these sizes in its head, whose parity rows fit and whose cards are fresh.
@@ -216,9 +223,7 @@ pub fn random_case(field: &Arithmetic, kind: Kind, length: Length, random: &mut 
         Length::Long => random.within(1, 14),
         Length::Limits => random.within(4, 8),
     };
-    if random.percent(88) {
-        writer.call(Call::Intake);
-    }
+    writer.begin(random);
     for _ in 0..count {
         writer.step(random);
     }
@@ -227,12 +232,25 @@ pub fn random_case(field: &Arithmetic, kind: Kind, length: Length, random: &mut 
 }
 
 impl Writer<'_> {
-    fn call(&mut self, call: Call) {
+    /// Mostly an intake, and where it is refused for a hole or a symbol, mostly another one after the bytes were put right.
+    fn begin(&mut self, random: &mut Random) {
+        if !random.percent(92) {
+            return;
+        }
+        self.call(Call::Intake);
+        if random.percent(80) {
+            self.heal(random);
+            self.call(Call::Intake);
+        }
+    }
+
+    fn call(&mut self, call: Call) -> Answer {
         let (answer, _) = self.tray.call(&call);
         self.steps.push(Step::Call(call.clone()));
         if matches!(answer, Answer::Mended(_)) || (call == Call::Intake && answer == Answer::Done) {
             self.good = self.tray.image.clone();
         }
+        answer
     }
 
     fn overwrite(&mut self, offset: usize, value: u8) {
@@ -280,8 +298,8 @@ impl Writer<'_> {
     fn step(&mut self, random: &mut Random) {
         let rows = self.tray.k.wrapping_add(self.tray.p);
         match random.below(100) {
-            0..=1 => self.call(Call::Fit),
-            2..=3 => self.call(Call::Intake),
+            0..=1 => drop(self.call(Call::Fit)),
+            2..=3 => drop(self.call(Call::Intake)),
             4..=13 => {
                 let row = self.row(rows, random);
                 self.call(Call::Audit(row));
@@ -296,26 +314,33 @@ impl Writer<'_> {
                 let symbols = self.symbols(count, random);
                 self.call(Call::Write(row, start, symbols));
             }
-            40..=44 => self.call(Call::Cross),
-            45..=48 => self.call(Call::Begin),
-            49..=58 => {
-                for _ in 0..random.pick(&[1, 1, 2, 10, 70]) {
-                    let before = self.steps.len();
-                    self.call(Call::Step);
-                    if before > 400 || random.percent(5) {
-                        break;
-                    }
-                }
+            40..=44 => drop(self.call(Call::Cross)),
+            45..=49 => {
+                self.call(Call::Begin);
+                self.walk(random);
             }
-            59..=61 => self.call(Call::Totals),
+            50..=55 => self.walk(random),
+            56..=60 => drop(self.call(Call::Totals)),
+            61 => drop(self.call(Call::Step)),
             62..=66 => {
                 let row = self.row(rows, random);
                 self.call(Call::Record(row));
             }
-            67..=69 => self.call(Call::First),
-            70..=77 => self.call(Call::Mend),
+            67..=69 => drop(self.call(Call::First)),
+            70..=77 => drop(self.call(Call::Mend)),
             78..=81 => self.heal(random),
             _ => self.damage(random),
+        }
+    }
+
+    /// Steps for as long as they are accepted, or a few of them.
+    fn walk(&mut self, random: &mut Random) {
+        let whole = random.percent(60);
+        for _ in 0..70 {
+            let walked = matches!(self.call(Call::Step), Answer::Verdict(_));
+            if !walked || (!whole && random.percent(40)) {
+                break;
+            }
         }
     }
 
