@@ -6,15 +6,14 @@ use crate::proved::{self, Kind, Shelf, Words};
 use crate::random::Random;
 use crate::runs::{good_image, Step};
 use std::hint::black_box;
-use std::time::Instant;
 
 /// Each time is the least of so many rounds, which take turns.
-const ROUNDS: usize = 9;
+const ROUNDS: usize = 11;
 
 /// A round repeats a call for about so long.
-const ROUND_SECONDS: f64 = 0.02;
+const ROUND_SECONDS: f64 = 0.008;
 
-const MOST_REPEATS: usize = 2_000;
+const MOST_REPEATS: usize = 16_384;
 
 /// Seconds with the calls, and seconds of all that is timed with them and is not theirs.
 struct Span {
@@ -34,11 +33,16 @@ impl Span {
     }
 }
 
-/// How often a job is repeated in a round: long enough beside what is taken off.
+/// How often a job is repeated in a round: long enough, also beside what is taken off.
 fn repeats(job: &mut Job) -> usize {
-    let once = job(1).least(job(1));
-    let wanted = ROUND_SECONDS.max(once.bare / 2.0);
-    ((wanted / once.own()) as usize).clamp(1, MOST_REPEATS)
+    let mut repeats = 1;
+    loop {
+        let span = job(repeats).least(job(repeats));
+        if span.own() >= ROUND_SECONDS.max(span.bare * 1.5) || repeats >= MOST_REPEATS {
+            return repeats;
+        }
+        repeats *= 2;
+    }
 }
 
 /// The least seconds of one call, for each job.
@@ -54,10 +58,30 @@ fn times(jobs: &mut [Job]) -> Vec<f64> {
     least.iter().zip(&repeats).map(|(span, repeats)| span.own() / *repeats as f64).collect()
 }
 
+/// Linux's clock of the processor time of this thread, which stands still while other work has the processor.
+const THREAD_CLOCK: i32 = 3;
+
+#[repr(C)]
+struct Timespec {
+    seconds: i64,
+    nanoseconds: i64,
+}
+
+extern "C" {
+    fn clock_gettime(clock: i32, time: *mut Timespec) -> i32;
+}
+
+fn thread_seconds() -> f64 {
+    let mut time = Timespec { seconds: 0, nanoseconds: 0 };
+    // SAFETY: the C library writes one timespec.
+    assert_eq!(unsafe { clock_gettime(THREAD_CLOCK, &mut time) }, 0);
+    time.seconds as f64 + time.nanoseconds as f64 * 1e-9
+}
+
 fn seconds(work: impl FnOnce()) -> f64 {
-    let started = Instant::now();
+    let started = thread_seconds();
     work();
-    started.elapsed().as_secs_f64()
+    thread_seconds() - started
 }
 
 /// What is timed.
@@ -165,6 +189,11 @@ impl Bench {
         })
     }
 
+    /// Damage happens to images alone. And where a call's own time is small beside setting up the lent memory, nothing is told.
+    fn on_arrays(&self, what: What) -> bool {
+        what != What::MendAll && (what != What::Intake || self.sizes[2] >= 255)
+    }
+
     fn run(&self, shelf: Shelf, image: &mut [u8], steps: &[Step]) -> f64 {
         let mut words: Words = proved::words(steps);
         let mut answers = vec![usize::MAX; steps.len() * 5];
@@ -240,22 +269,22 @@ fn calls_table<F: Timed>(sizes: [usize; 4]) {
     println!("\n### {}\n", titled(F::KIND, sizes));
     println!("| call | core, image shelf | core, array shelf | plain Rust | image : plain | array : plain |");
     println!("| --- | --- | --- | --- | --- | --- |");
-    let all = [What::Audit, What::WriteOne, What::WriteBlock, What::Intake, What::MendNothing];
-    for what in all {
-        let took = times(&mut [bench.core(what, Shelf::Image), bench.core(what, Shelf::Array), bench.plain_job::<F>(what)]);
+    for what in [What::Audit, What::WriteOne, What::WriteBlock, What::Intake, What::MendNothing, What::MendAll] {
+        let mut jobs = vec![bench.core(what, Shelf::Image), bench.plain_job::<F>(what)];
+        if bench.on_arrays(what) {
+            jobs.push(bench.core(what, Shelf::Array));
+        }
+        let took = times(&mut jobs);
+        let array = took.get(2).map_or(String::new(), |array| shown(*array));
+        let ratio = took.get(2).map_or(String::new(), |array| format!("{:.1}", array / took[1]));
         println!(
-            "| {} | {} | {} | {} | {:.1} | {:.1} |",
+            "| {} | {} | {array} | {} | {:.1} | {ratio} |",
             what.name(),
             shown(took[0]),
             shown(took[1]),
-            shown(took[2]),
-            took[0] / took[2],
-            took[1] / took[2]
+            took[0] / took[1],
         );
     }
-    let took = times(&mut [bench.core(What::MendAll, Shelf::Image), bench.plain_job::<F>(What::MendAll)]);
-    let name = What::MendAll.name();
-    println!("| {name} | {} | | {} | {:.1} | |", shown(took[0]), shown(took[1]), took[0] / took[1]);
 }
 
 /// Times as one of the four sizes doubles, each for one symbol of what the call reads.
@@ -398,6 +427,8 @@ fn parity_table() {
 }
 
 pub fn speed() -> bool {
+    calls_table::<plain::Byte>([2, 2, 3, 2]);
+    calls_table::<plain::Counter>([2, 2, 3, 2]);
     calls_table::<plain::Byte>([10, 4, 255, 4]);
     calls_table::<plain::Counter>([10, 4, 1_024, 4]);
     calls_table::<plain::Byte>([64, 4, 255, 8]);
