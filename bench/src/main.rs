@@ -3,6 +3,7 @@
 mod check;
 mod law;
 mod model;
+mod order;
 mod plain;
 mod proved;
 mod random;
@@ -25,9 +26,9 @@ fn main() -> ExitCode {
     let worker = std::thread::Builder::new().stack_size(STACK);
     let run = match what.as_str() {
         "check" => {
-            let runs = number(arguments.next(), 20_000);
+            let runs = number(arguments.next(), 10_000);
             let seed = number(arguments.next(), 1);
-            worker.spawn(move || check::check(runs, seed))
+            worker.spawn(move || order::check(runs, seed) & check::check(runs, seed))
         }
         "speed" => worker.spawn(speed::speed),
         _ => {

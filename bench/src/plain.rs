@@ -61,6 +61,67 @@ impl Symbol for Byte {
     }
 }
 
+/// A byte whose products go by tables of logarithms: what the bit by bit product costs shows beside it.
+#[derive(Clone, Copy, PartialEq, Eq, Debug)]
+pub struct Tabled(pub u8);
+
+struct Tables {
+    powers: [u8; 510],
+    logs: [u8; 256],
+}
+
+static TABLES: Tables = tables();
+
+const fn tables() -> Tables {
+    let mut tables = Tables { powers: [0; 510], logs: [0; 256] };
+    let mut power: u8 = 1;
+    let mut i = 0;
+    while i < 255 {
+        tables.powers[i] = power;
+        tables.powers[i + 255] = power;
+        tables.logs[power as usize] = i as u8;
+        power = if power < 128 { power << 1 } else { (power << 1) ^ 0x1D };
+        i += 1;
+    }
+    tables
+}
+
+impl Symbol for Tabled {
+    const ZERO: Self = Tabled(0);
+    const ONE: Self = Tabled(1);
+    const ALPHA: Self = Tabled(2);
+
+    fn numbered(number: usize) -> Self {
+        Tabled(number as u8)
+    }
+
+    fn plus(self, other: Self) -> Self {
+        Tabled(self.0 ^ other.0)
+    }
+
+    fn minus(self, other: Self) -> Self {
+        Tabled(self.0 ^ other.0)
+    }
+
+    fn times(self, other: Self) -> Self {
+        if self.0 == 0 || other.0 == 0 {
+            return Tabled(0);
+        }
+        let log = TABLES.logs[self.0 as usize] as usize + TABLES.logs[other.0 as usize] as usize;
+        Tabled(TABLES.powers[log])
+    }
+
+    fn inverse(self) -> Self {
+        Byte(self.0).inverse().into()
+    }
+}
+
+impl From<Byte> for Tabled {
+    fn from(byte: Byte) -> Self {
+        Tabled(byte.0)
+    }
+}
+
 #[derive(Clone, Copy, PartialEq, Eq, Debug)]
 pub struct Counter(pub u32);
 

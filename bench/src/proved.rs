@@ -7,6 +7,10 @@ type Script = unsafe extern "C" fn(
     *mut u8, usize, usize, usize, usize, usize, *const usize, usize, *mut usize, usize, *mut usize, usize,
 );
 
+type Puts = unsafe extern "C" fn(
+    *mut u8, usize, usize, usize, usize, usize, usize, usize, *const usize, usize, *mut usize, usize,
+) -> usize;
+
 type Parity = unsafe extern "C" fn(*mut u8, usize, usize, usize, usize, usize, bool, usize, *mut usize, usize);
 
 #[rustfmt::skip]
@@ -17,6 +21,8 @@ extern "C" {
     fn tray_counter_array(image: *mut u8, len: usize, k: usize, p: usize, n: usize, m: usize, script: *const usize, words: usize, numbers: *mut usize, count: usize, answers: *mut usize, room: usize);
     fn tray_byte_parity(image: *mut u8, len: usize, k: usize, p: usize, n: usize, m: usize, lent: bool, times: usize, numbers: *mut usize, count: usize);
     fn tray_counter_parity(image: *mut u8, len: usize, k: usize, p: usize, n: usize, m: usize, lent: bool, times: usize, numbers: *mut usize, count: usize);
+    fn tray_byte_puts(image: *mut u8, len: usize, k: usize, p: usize, n: usize, m: usize, row: usize, start: usize, numbers: *const usize, count: usize, puts: *mut usize, room: usize) -> usize;
+    fn tray_counter_puts(image: *mut u8, len: usize, k: usize, p: usize, n: usize, m: usize, row: usize, start: usize, numbers: *const usize, count: usize, puts: *mut usize, room: usize) -> usize;
 }
 
 /// What the tray stands on: the image itself, or lent symbols and marks with its contents.
@@ -104,6 +110,35 @@ pub fn parity(kind: Kind, shelf: Shelf, sizes: [usize; 4], image: &mut [u8], tim
     unsafe {
         function(image.as_mut_ptr(), image.len(), k, p, n, m, lent, times, numbers.as_mut_ptr(), numbers.len());
     }
+}
+
+/// Every put of an intake and of a write after it: a row, a place and a number.
+pub fn puts(kind: Kind, sizes: [usize; 4], image: &mut [u8], row: usize, start: usize, numbers: &[usize]) -> Vec<[usize; 3]> {
+    let function: Puts = match kind {
+        Kind::Byte => tray_byte_puts,
+        Kind::Counter => tray_counter_puts,
+    };
+    let [k, p, n, m] = sizes;
+    let mut puts = vec![usize::MAX; 3 * (numbers.len() + 1) * (k + p) * (m + 1)];
+    // SAFETY: each pointer goes with the length of its slice, and the slices do not overlap.
+    let count = unsafe {
+        function(
+            image.as_mut_ptr(),
+            image.len(),
+            k,
+            p,
+            n,
+            m,
+            row,
+            start,
+            numbers.as_ptr(),
+            numbers.len(),
+            puts.as_mut_ptr(),
+            puts.len(),
+        )
+    };
+    puts.truncate(count * 3);
+    puts.chunks_exact(3).map(|put| put.try_into().expect("three numbers")).collect()
 }
 
 pub fn outcome(case: &Case, shelf: Shelf) -> Outcome {

@@ -141,7 +141,10 @@ fn sizes(kind: Kind, length: Length, random: &mut Random) -> [usize; 4] {
     match length {
         Length::Short => [random.within(1, 6), p, random.within(1, 12), m],
         Length::Middle => [random.within(1, 24), p, random.within(1, 80), m],
-        Length::Long => [random.pick(&[1, 10, 40, 63, 64]), p, random.pick(&[100, 200, 254, 255]), m],
+        Length::Long => {
+            let lengths = if kind == Kind::Byte { [100, 200, 254, 255] } else { [100, 255, 256, 600] };
+            [random.pick(&[1, 10, 40, 63, 64]), p, random.pick(&lengths), m]
+        }
         Length::Limits => [random.pick(&[2, 16, 64]), 4, longest, random.pick(&[2, 8])],
     }
 }

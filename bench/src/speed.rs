@@ -121,6 +121,13 @@ impl Timed for plain::Byte {
     }
 }
 
+impl Timed for plain::Tabled {
+    const KIND: Kind = Kind::Byte;
+    fn arithmetic() -> Arithmetic {
+        Arithmetic::byte()
+    }
+}
+
 impl Timed for plain::Counter {
     const KIND: Kind = Kind::Counter;
     fn arithmetic() -> Arithmetic {
@@ -287,6 +294,18 @@ fn calls_table<F: Timed>(sizes: [usize; 4]) {
     }
 }
 
+/// What a product by tables would change.
+fn tables_table(sizes: [usize; 4]) {
+    println!("\n### Plain Rust with products by tables, {}\n", titled(Kind::Byte, sizes));
+    println!("| call | bit by bit | by tables | ratio |");
+    println!("| --- | --- | --- | --- |");
+    let bench = Bench::new::<plain::Byte>(sizes);
+    for what in [What::Audit, What::WriteBlock, What::Intake, What::MendAll] {
+        let took = times(&mut [bench.plain_job::<plain::Byte>(what), bench.plain_job::<plain::Tabled>(what)]);
+        println!("| {} | {} | {} | {:.1} |", what.name(), shown(took[0]), shown(took[1]), took[0] / took[1]);
+    }
+}
+
 /// Times as one of the four sizes doubles, each for one symbol of what the call reads.
 fn growth_table<F: Timed>(title: &str, all: [[usize; 4]; 3]) {
     println!("\n### {title}, nanoseconds for each symbol\n");
@@ -376,8 +395,8 @@ mod isal {
 #[cfg(isal)]
 fn parity_table() {
     println!("\n### Parity of the blocks, byte field, beside ISA-L\n");
-    println!("| k, p, n | core, image shelf | core, array shelf | plain Rust | ISA-L | image : ISA-L | array : ISA-L | plain : ISA-L |");
-    println!("| --- | --- | --- | --- | --- | --- | --- | --- |");
+    println!("| k, p, n | core, image shelf | core, array shelf | plain Rust | plain Rust, products by tables | ISA-L | image : ISA-L | array : ISA-L | plain : ISA-L | tables : ISA-L |");
+    println!("| --- | --- | --- | --- | --- | --- | --- | --- | --- | --- |");
     for [k, p, n] in [[10, 4, 64], [10, 4, 128], [10, 4, 255], [20, 4, 255], [40, 4, 255], [64, 4, 255]] {
         let bench = Bench::new::<plain::Byte>([k, p, n, 4]);
         let encoder = isal::Encoder::new(k, p);
@@ -387,17 +406,20 @@ fn parity_table() {
             bench.core_parity(Shelf::Image),
             bench.core_parity(Shelf::Array),
             bench.plain_parity::<plain::Byte>(),
+            bench.plain_parity::<plain::Tabled>(),
             encoder.job(data),
         ]);
         println!(
-            "| {k}, {p}, {n} | {} | {} | {} | {} | {:.0} | {:.0} | {:.0} |",
+            "| {k}, {p}, {n} | {} | {} | {} | {} | {} | {:.0} | {:.0} | {:.0} | {:.0} |",
             shown(took[0]),
             shown(took[1]),
             shown(took[2]),
             shown(took[3]),
-            took[0] / took[3],
-            took[1] / took[3],
-            took[2] / took[3]
+            shown(took[4]),
+            took[0] / took[4],
+            took[1] / took[4],
+            took[2] / took[4],
+            took[3] / took[4]
         );
     }
     let (k, p, n) = (10, 4, 65_536);
@@ -437,6 +459,7 @@ pub fn speed() -> bool {
     growth_table::<plain::Byte>("Byte field, k doubles", [[16, 4, 255, 4], [32, 4, 255, 4], [64, 4, 255, 4]]);
     growth_table::<plain::Counter>("Counter field, n doubles", [[10, 4, 1_024, 4], [10, 4, 2_048, 4], [10, 4, 4_096, 4]]);
     growth_table::<plain::Counter>("Counter field, k doubles", [[16, 4, 1_024, 4], [32, 4, 1_024, 4], [64, 4, 1_024, 4]]);
+    tables_table([10, 4, 255, 4]);
     parity_table();
     true
 }

@@ -1,7 +1,8 @@
 // Scripts over trays of the byte field.
 use crate::answers::Answer;
 use crate::arrays::{CAPACITY, pack, parity, unpack};
-use crate::script::{DAMAGE, SYMBOLS, Step, make_call, note, step_at, step_count};
+use crate::recorded::Recorded;
+use crate::script::{DAMAGE, SYMBOLS, Step, load, make_call, note, step_at, step_count};
 use byte_field::Byte;
 use image_shelves::ByteImage;
 use rules::Sizes;
@@ -134,4 +135,23 @@ pub fn parity_over_array(image: &mut [u8], sizes: Sizes, times: usize, numbers: 
     let mut symbols = [Byte(0); CAPACITY];
     let mut marks = [0u8; CAPACITY];
     parity_over_memory(image, &mut symbols, &mut marks, sizes, times, numbers);
+}
+
+// Takes an image in and writes symbols, over a shelf that writes down each put.
+pub fn puts(
+    image: &mut [u8],
+    sizes: Sizes,
+    row: usize,
+    start: usize,
+    numbers: &[usize],
+    puts: &mut [usize],
+) -> usize {
+    let mut buffer = [Byte(0); SYMBOLS];
+    let count = numbers.len().min(buffer.len());
+    let symbols = &mut buffer[..count];
+    load(numbers, 0, symbols);
+    let mut tray = Tray::over(Recorded::over(ByteImage::over(image), puts), sizes);
+    let _ = tray.intake();
+    let _ = tray.write(row, start, symbols);
+    tray.into_shelf().count()
 }

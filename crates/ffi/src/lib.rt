@@ -6,6 +6,7 @@ mod answers;
 mod arrays;
 mod byte_runs;
 mod counter_runs;
+mod recorded;
 mod script;
 
 use rules::Sizes;
@@ -126,4 +127,38 @@ pub extern "C" fn tray_counter_parity(
     } else {
         counter_runs::parity_over_image(image, sizes, times, numbers);
     }
+}
+
+// Takes an image in, writes symbols, and writes down every put of both. It answers how many puts there were.
+#[unsafe(no_mangle)]
+pub extern "C" fn tray_byte_puts(
+    image: &mut [u8],
+    data_rows: usize,
+    parity_rows: usize,
+    block_length: usize,
+    card_length: usize,
+    row: usize,
+    start: usize,
+    numbers: &[usize],
+    puts: &mut [usize],
+) -> usize {
+    let sizes = sizes_of(data_rows, parity_rows, block_length, card_length);
+    byte_runs::puts(image, sizes, row, start, numbers, puts)
+}
+
+// Takes an image in, writes symbols, and writes down every put of both. It answers how many puts there were.
+#[unsafe(no_mangle)]
+pub extern "C" fn tray_counter_puts(
+    image: &mut [u8],
+    data_rows: usize,
+    parity_rows: usize,
+    block_length: usize,
+    card_length: usize,
+    row: usize,
+    start: usize,
+    numbers: &[usize],
+    puts: &mut [usize],
+) -> usize {
+    let sizes = sizes_of(data_rows, parity_rows, block_length, card_length);
+    counter_runs::puts(image, sizes, row, start, numbers, puts)
 }

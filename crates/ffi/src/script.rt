@@ -44,7 +44,7 @@ pub fn step_at(script: &[usize], index: usize) -> Step {
 }
 
 // Sets the symbols of a step's numbers.
-fn load<F: Field>(numbers: &[usize], from: usize, symbols: &mut [F]) {
+pub fn load<F: Field>(numbers: &[usize], from: usize, symbols: &mut [F]) {
     for (i, slot) in symbols.iter_mut().enumerate() {
         *slot = rows::element(word(numbers, from.saturating_add(i)));
     }
