@@ -7,8 +7,11 @@ use crate::random::Random;
 use crate::runs::{good_image, Step};
 use std::hint::black_box;
 
-/// Each time is the least of so many rounds, which take turns.
-const ROUNDS: usize = 11;
+/// Each time is the least of so many rounds, in which the candidates take turns, in each of so many passes over all tables: what slows the
+/// machine for a while then spoils no cell.
+const ROUNDS: usize = 4;
+
+const PASSES: usize = 5;
 
 /// A round repeats a call for about so long.
 const ROUND_SECONDS: f64 = 0.008;
@@ -46,7 +49,7 @@ fn repeats(job: &mut Job) -> usize {
 }
 
 /// The least seconds of one call, for each job.
-fn times(jobs: &mut [Job]) -> Vec<f64> {
+fn measured(jobs: &mut [Job]) -> Vec<f64> {
     let repeats: Vec<usize> = jobs.iter_mut().map(repeats).collect();
     let mut least: Vec<Span> = jobs.iter().map(|_| Span { whole: f64::MAX, bare: f64::MAX }).collect();
     for _ in 0..ROUNDS {
@@ -56,6 +59,37 @@ fn times(jobs: &mut [Job]) -> Vec<f64> {
         }
     }
     least.iter().zip(&repeats).map(|(span, repeats)| span.own() / *repeats as f64).collect()
+}
+
+/// The tables as text, and the least times of all passes so far, measurement after measurement.
+#[derive(Default)]
+struct Tables {
+    text: String,
+    least: Vec<Vec<f64>>,
+    at: usize,
+}
+
+impl Tables {
+    fn begin_pass(&mut self) {
+        self.text.clear();
+        self.at = 0;
+    }
+
+    fn line(&mut self, line: &str) {
+        self.text.push_str(line);
+        self.text.push('\n');
+    }
+
+    fn times(&mut self, jobs: &mut [Job]) -> Vec<f64> {
+        let now = measured(jobs);
+        if self.at == self.least.len() {
+            self.least.push(now);
+        } else {
+            self.least[self.at].iter_mut().zip(now).for_each(|(least, now)| *least = least.min(now));
+        }
+        self.at += 1;
+        self.least[self.at - 1].clone()
+    }
 }
 
 /// Linux's clock of the processor time of this thread, which stands still while other work has the processor.
@@ -268,65 +302,65 @@ fn shown(seconds: f64) -> String {
 
 fn titled(kind: Kind, sizes: [usize; 4]) -> String {
     let [k, p, n, m] = sizes;
-    format!("{} field, k = {k}, p = {p}, n = {n}, m = {m}", if kind == Kind::Byte { "byte" } else { "counter" })
+    format!("{} field, k = {k}, p = {p}, n = {n}, m = {m}", if kind == Kind::Byte { "Byte" } else { "Counter" })
 }
 
-fn calls_table<F: Timed>(sizes: [usize; 4]) {
+fn calls_table<F: Timed>(tables: &mut Tables, sizes: [usize; 4]) {
     let bench = Bench::new::<F>(sizes);
-    println!("\n### {}\n", titled(F::KIND, sizes));
-    println!("| call | core, image shelf | core, array shelf | plain Rust | image : plain | array : plain |");
-    println!("| --- | --- | --- | --- | --- | --- |");
+    tables.line(&format!("\n### {}\n", titled(F::KIND, sizes)));
+    tables.line(&format!("| call | core, image shelf | core, array shelf | plain Rust | image : plain | array : plain |"));
+    tables.line(&format!("| --- | --- | --- | --- | --- | --- |"));
     for what in [What::Audit, What::WriteOne, What::WriteBlock, What::Intake, What::MendNothing, What::MendAll] {
         let mut jobs = vec![bench.core(what, Shelf::Image), bench.plain_job::<F>(what)];
         if bench.on_arrays(what) {
             jobs.push(bench.core(what, Shelf::Array));
         }
-        let took = times(&mut jobs);
+        let took = tables.times(&mut jobs);
         let array = took.get(2).map_or(String::new(), |array| shown(*array));
         let ratio = took.get(2).map_or(String::new(), |array| format!("{:.1}", array / took[1]));
-        println!(
+        tables.line(&format!(
             "| {} | {} | {array} | {} | {:.1} | {ratio} |",
             what.name(),
             shown(took[0]),
             shown(took[1]),
             took[0] / took[1],
-        );
+        ));
     }
 }
 
 /// What a product by tables would change.
-fn tables_table(sizes: [usize; 4]) {
-    println!("\n### Plain Rust with products by tables, {}\n", titled(Kind::Byte, sizes));
-    println!("| call | bit by bit | by tables | ratio |");
-    println!("| --- | --- | --- | --- |");
+fn tables_table(tables: &mut Tables, sizes: [usize; 4]) {
+    tables.line(&format!("\n### Plain Rust with products by tables, {}\n", titled(Kind::Byte, sizes)));
+    tables.line(&format!("| call | bit by bit | by tables | ratio |"));
+    tables.line(&format!("| --- | --- | --- | --- |"));
     let bench = Bench::new::<plain::Byte>(sizes);
     for what in [What::Audit, What::WriteBlock, What::Intake, What::MendAll] {
-        let took = times(&mut [bench.plain_job::<plain::Byte>(what), bench.plain_job::<plain::Tabled>(what)]);
-        println!("| {} | {} | {} | {:.1} |", what.name(), shown(took[0]), shown(took[1]), took[0] / took[1]);
+        let took = tables.times(&mut [bench.plain_job::<plain::Byte>(what), bench.plain_job::<plain::Tabled>(what)]);
+        tables.line(&format!("| {} | {} | {} | {:.1} |", what.name(), shown(took[0]), shown(took[1]), took[0] / took[1]));
     }
 }
 
 /// Times as one of the four sizes doubles, each for one symbol of what the call reads.
-fn growth_table<F: Timed>(title: &str, all: [[usize; 4]; 3]) {
-    println!("\n### {title}, nanoseconds for each symbol\n");
-    println!("| k, p, n, m | audit: core, plain | intake: core, plain | mend, p lost: core, plain | write of 1 symbol: core, plain |");
-    println!("| --- | --- | --- | --- | --- |");
+fn growth_table<F: Timed>(tables: &mut Tables, title: &str, all: [[usize; 4]; 3]) {
+    tables.line(&format!("\n### {title}, nanoseconds for each symbol\n"));
+    tables.line(&format!("| k, p, n, m | audit: core, plain | intake: core, plain | mend, p lost: core, plain | write of 1 symbol: core, plain |"));
+    tables.line(&format!("| --- | --- | --- | --- | --- |"));
     for sizes in all {
         let bench = Bench::new::<F>(sizes);
         let [k, p, n, m] = sizes;
-        let cell = |what: What, symbols: usize| {
-            let took = times(&mut [bench.core(what, Shelf::Image), bench.plain_job::<F>(what)]);
+        let mut cell = |what: What, symbols: usize| {
+            let took = tables.times(&mut [bench.core(what, Shelf::Image), bench.plain_job::<F>(what)]);
             let each = |seconds: f64| seconds * 1e9 / symbols as f64;
             format!("{:.1}, {:.1} ({:.1} to 1)", each(took[0]), each(took[1]), took[0] / took[1])
         };
         let row = n + m;
-        println!(
-            "| {k}, {p}, {n}, {m} | {} | {} | {} | {} |",
+        let cells = [
             cell(What::Audit, row),
             cell(What::Intake, (k + p) * row),
             cell(What::MendAll, (k + p) * row),
-            cell(What::WriteOne, (1 + p) * row)
-        );
+            cell(What::WriteOne, (1 + p) * row),
+        ];
+        tables.line(&format!("| {k}, {p}, {n}, {m} | {} |", cells.join(" | ")));
     }
 }
 
@@ -393,23 +427,23 @@ mod isal {
 }
 
 #[cfg(isal)]
-fn parity_table() {
-    println!("\n### Parity of the blocks, byte field, beside ISA-L\n");
-    println!("| k, p, n | core, image shelf | core, array shelf | plain Rust | plain Rust, products by tables | ISA-L | image : ISA-L | array : ISA-L | plain : ISA-L | tables : ISA-L |");
-    println!("| --- | --- | --- | --- | --- | --- | --- | --- | --- | --- |");
+fn parity_table(tables: &mut Tables) {
+    tables.line(&format!("\n### Parity of the blocks, byte field, beside ISA-L\n"));
+    tables.line(&format!("| k, p, n | core, image shelf | core, array shelf | plain Rust | plain Rust, products by tables | ISA-L | image : ISA-L | array : ISA-L | plain : ISA-L | tables : ISA-L |"));
+    tables.line(&format!("| --- | --- | --- | --- | --- | --- | --- | --- | --- | --- |"));
     for [k, p, n] in [[10, 4, 64], [10, 4, 128], [10, 4, 255], [20, 4, 255], [40, 4, 255], [64, 4, 255]] {
         let bench = Bench::new::<plain::Byte>([k, p, n, 4]);
         let encoder = isal::Encoder::new(k, p);
         let data = isal::blocks(&bench);
         assert_same(&bench, &encoder, &data);
-        let took = times(&mut [
+        let took = tables.times(&mut [
             bench.core_parity(Shelf::Image),
             bench.core_parity(Shelf::Array),
             bench.plain_parity::<plain::Byte>(),
             bench.plain_parity::<plain::Tabled>(),
             encoder.job(data),
         ]);
-        println!(
+        tables.line(&format!(
             "| {k}, {p}, {n} | {} | {} | {} | {} | {} | {:.0} | {:.0} | {:.0} | {:.0} |",
             shown(took[0]),
             shown(took[1]),
@@ -420,12 +454,12 @@ fn parity_table() {
             took[1] / took[4],
             took[2] / took[4],
             took[3] / took[4]
-        );
+        ));
     }
     let (k, p, n) = (10, 4, 65_536);
     let encoder = isal::Encoder::new(k, p);
-    let took = times(&mut [encoder.job(vec![vec![90; n]; k])]);
-    println!("\nISA-L alone, k = {k}, p = {p}, blocks of {n} bytes: {}, {:.1} GB/s of data.", shown(took[0]), (k * n) as f64 / took[0] / 1e9);
+    let took = tables.times(&mut [encoder.job(vec![vec![90; n]; k])]);
+    tables.line(&format!("\nISA-L alone, k = {k}, p = {p}, blocks of {n} bytes: {}, {:.1} GB/s of data.", shown(took[0]), (k * n) as f64 / took[0] / 1e9));
 }
 
 /// ISA-L, the core and the plain code work the same parity.
@@ -444,22 +478,32 @@ fn assert_same(bench: &Bench, encoder: &isal::Encoder, data: &[Vec<u8>]) {
 }
 
 #[cfg(not(isal))]
-fn parity_table() {
-    println!("\nISA-L is not on this machine, so parity was not timed beside it.");
+fn parity_table(tables: &mut Tables) {
+    tables.line(&format!("\nISA-L is not on this machine, so parity was not timed beside it."));
+}
+
+fn all_tables(tables: &mut Tables) {
+    calls_table::<plain::Byte>(tables, [10, 4, 255, 4]);
+    calls_table::<plain::Counter>(tables, [10, 4, 1_024, 4]);
+    calls_table::<plain::Byte>(tables, [64, 4, 255, 8]);
+    calls_table::<plain::Counter>(tables, [64, 4, 4_096, 8]);
+    calls_table::<plain::Byte>(tables, [2, 2, 3, 2]);
+    calls_table::<plain::Counter>(tables, [2, 2, 3, 2]);
+    growth_table::<plain::Byte>(tables, "Byte field, n doubles", [[10, 4, 62, 4], [10, 4, 124, 4], [10, 4, 248, 4]]);
+    growth_table::<plain::Byte>(tables, "Byte field, k doubles", [[16, 4, 255, 4], [32, 4, 255, 4], [64, 4, 255, 4]]);
+    growth_table::<plain::Counter>(tables, "Counter field, n doubles", [[10, 4, 1_024, 4], [10, 4, 2_048, 4], [10, 4, 4_096, 4]]);
+    growth_table::<plain::Counter>(tables, "Counter field, k doubles", [[16, 4, 1_024, 4], [32, 4, 1_024, 4], [64, 4, 1_024, 4]]);
+    parity_table(tables);
+    tables_table(tables, [10, 4, 255, 4]);
 }
 
 pub fn speed() -> bool {
-    calls_table::<plain::Byte>([2, 2, 3, 2]);
-    calls_table::<plain::Counter>([2, 2, 3, 2]);
-    calls_table::<plain::Byte>([10, 4, 255, 4]);
-    calls_table::<plain::Counter>([10, 4, 1_024, 4]);
-    calls_table::<plain::Byte>([64, 4, 255, 8]);
-    calls_table::<plain::Counter>([64, 4, 4_096, 8]);
-    growth_table::<plain::Byte>("Byte field, n doubles", [[10, 4, 62, 4], [10, 4, 124, 4], [10, 4, 248, 4]]);
-    growth_table::<plain::Byte>("Byte field, k doubles", [[16, 4, 255, 4], [32, 4, 255, 4], [64, 4, 255, 4]]);
-    growth_table::<plain::Counter>("Counter field, n doubles", [[10, 4, 1_024, 4], [10, 4, 2_048, 4], [10, 4, 4_096, 4]]);
-    growth_table::<plain::Counter>("Counter field, k doubles", [[16, 4, 1_024, 4], [32, 4, 1_024, 4], [64, 4, 1_024, 4]]);
-    tables_table([10, 4, 255, 4]);
-    parity_table();
+    let mut tables = Tables::default();
+    for pass in 0..PASSES {
+        eprintln!("pass {} of {PASSES}", pass + 1);
+        tables.begin_pass();
+        all_tables(&mut tables);
+    }
+    print!("{}", tables.text);
     true
 }
