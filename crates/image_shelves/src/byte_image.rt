@@ -20,6 +20,14 @@ impl<'a> ByteImage<'a> {
     {
         ByteImage { bytes }
     }
+
+    // Gives the bytes back, as the calls left them.
+    pub fn into_bytes(self) -> &'a mut [u8]
+        ensures { result ≡ self.entry.bytes }
+    {
+        let ByteImage { bytes } = self;
+        bytes
+    }
 }
 
 impl<'a> Shelf for ByteImage<'a> {

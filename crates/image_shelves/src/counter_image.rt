@@ -20,6 +20,14 @@ impl<'a> CounterImage<'a> {
     {
         CounterImage { bytes }
     }
+
+    // Gives the bytes back, as the calls left them.
+    pub fn into_bytes(self) -> &'a mut [u8]
+        ensures { result ≡ self.entry.bytes }
+    {
+        let CounterImage { bytes } = self;
+        bytes
+    }
 }
 
 impl<'a> Shelf for CounterImage<'a> {
