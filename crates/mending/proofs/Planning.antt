@@ -70,7 +70,7 @@ module _ {A : Type 0} (F : Field A) (k p : ℕ) (sound : ℕ → Bool) where
 
     abbrev Equations : Type 0
     Equations =
-        Square F k (counted k (lost F k sound)) (λ a. get_or used-at a 0) (λ b. get_or lost-at b 0) → (row : ℕ) → row < 68
+        Square F k (counted k (lost F k sound)) (λ a. get_or used-at a 0) (λ b. get_or lost-at b 0) → (row : ℕ) → row < k + p → row < 68
         → Solves F (counted k (lost F k sound)) (λ a. get_or used-at a 0) (λ b. get_or lost-at b 0) (λ a. share F k sound (get_or used-at a 0) row) (weight-in F weights row)
 
     few-picked : (b : ℕ) → b < counted p (λ i. sound (k + i)) → b < 4
@@ -88,13 +88,13 @@ module _ {A : Type 0} (F : Field A) (k p : ℕ) (sound : ℕ → Bool) where
           solves = λ row i h l e.
               by-row (λ a. get_or used-at a 0) us'
               (λ i. sum_to F (counted k (lost F k sound)) (λ b. F.mul (coefficient F i (get_or lost-at b 0)) (weight-in F weights row b)) ≡ share F k sound i row)
-              (λ a o. solved q row (omega arith) a o) i l e;
+              (λ a o. solved q row h (omega arith) a o) i l e;
         }
 
     pub planned-by : (lost-count used-count : ℕ)
         → lost-count ≡ counted k (λ i. not (sound (0 + i))) → ((b : ℕ) → b < 4 → b < lost-count → Picked k (λ i. not (sound (0 + i))) b (get_or lost-at b 0))
         → used-count ≡ counted p (λ i. sound (k + i)) → ((b : ℕ) → b < 4 → b < used-count → Picked p (λ i. sound (k + i)) b (get_or used-at b 0))
-        → (lost-count ≤ 4 → Square F k lost-count (λ a. get_or used-at a 0) (λ b. get_or lost-at b 0) → (row : ℕ) → row < 68
+        → (lost-count ≤ 4 → Square F k lost-count (λ a. get_or used-at a 0) (λ b. get_or lost-at b 0) → (row : ℕ) → row < k + p → row < 68
         → Solves F lost-count (λ a. get_or used-at a 0) (λ b. get_or lost-at b 0) (λ a. share F k sound (get_or used-at a 0) row) (weight-in F weights row))
         → Planned F k p sound (record { lost = lost-at; count = lost-count; weights = weights })
     planned-by lost-count used-count lc bs uc us solved =
@@ -105,5 +105,5 @@ module _ {A : Type 0} (F : Field A) (k p : ℕ) (sound : ℕ → Bool) where
         let at-most : lost-count ≤ 4 = omega (arith, counts, enough, counted-few p (λ i. sound (k + i))) in
         subst (λ c. Planned F k p sound (record { lost = lost-at; count = c; weights = weights })) (sym counts)
         (planned-here (λ b f h. bs' b f (omega (arith, counts, h))) (λ a f h. us a f (omega (arith, uc, h)))
-        (subst (λ c. Square F k c (λ a. get_or used-at a 0) (λ b. get_or lost-at b 0) → (row : ℕ) → row < 68
+        (subst (λ c. Square F k c (λ a. get_or used-at a 0) (λ b. get_or lost-at b 0) → (row : ℕ) → row < k + p → row < 68
         → Solves F c (λ a. get_or used-at a 0) (λ b. get_or lost-at b 0) (λ a. share F k sound (get_or used-at a 0) row) (weight-in F weights row)) counts (solved at-most)))

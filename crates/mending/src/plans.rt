@@ -93,18 +93,19 @@ fn working<F: Field>(
     solution::<F>(used, &columns, right, lost.count)
 }
 
-// The weights of all rows in the lost data rows.
+// The weights of so many rows in the lost data rows.
 fn all_weights<F: Field>(
     damage: &Damage,
     data_rows: usize,
+    rows: usize,
     used: &[usize; 4],
     lost: &Picks,
 ) -> [[usize; 4]; 68]
     ensures { data_rows ≤ 64 → lost.now.count ≤ 4 → Square F.Field.algebra data_rows lost.now.count (slice_index used.now) (slice_index lost.now.at)
-        → (row : ℕ) → row < 68 → Solves F.Field.algebra lost.now.count (slice_index used.now) (slice_index lost.now.at) (λ a. share-of F.Field.algebra data_rows (flag damage.now) (slice_index used.now a) row) (weight-in F.Field.algebra result row) }
+        → (row : ℕ) → row < rows → row < 68 → Solves F.Field.algebra lost.now.count (slice_index used.now) (slice_index lost.now.at) (λ a. share-of F.Field.algebra data_rows (flag damage.now) (slice_index used.now a) row) (weight-in F.Field.algebra result row) }
 {
     let mut weights = [[0; 4]; 68];
-    for row in 0..68 {
+    for row in 0..rows.min(68) {
         let solved = working::<F>(damage, data_rows, used, lost, row);
         weights[row] = solved;
     }
@@ -119,7 +120,8 @@ pub fn make_plan<F: Field>(sizes: Sizes, damage: &Damage) -> Plan
 {
     let lost = picked(damage, 0, sizes.data_rows, false);
     let used = picked(damage, sizes.data_rows, sizes.parity_rows, true);
-    let weights = all_weights::<F>(damage, sizes.data_rows, &used.at, &lost);
+    let rows = sizes.data_rows.saturating_add(sizes.parity_rows);
+    let weights = all_weights::<F>(damage, sizes.data_rows, rows, &used.at, &lost);
     Plan {
         lost: lost.at,
         count: lost.count,
@@ -137,12 +139,12 @@ fn planned<F: Field>(plan: &Plan, row: usize, rank: usize) -> F
     }
 }
 
-// The weights of all rows in the lost data row of a rank.
-fn lost_weights<F: Field>(plan: &Plan, rank: usize) -> [usize; 68]
-    ensures { (row : ℕ) → row < 68 → stored-at F.Field.algebra result row ≡ weight-in F.Field.algebra plan.now.weights row rank }
+// The weights of so many rows in the lost data row of a rank.
+fn lost_weights<F: Field>(plan: &Plan, rows: usize, rank: usize) -> [usize; 68]
+    ensures { (row : ℕ) → row < rows → row < 68 → stored-at F.Field.algebra result row ≡ weight-in F.Field.algebra plan.now.weights row rank }
 {
     let mut weights = [0; 68];
-    for row in 0..68 {
+    for row in 0..rows.min(68) {
         let weight: F = planned(plan, row, rank);
         store(&mut weights, row, weight);
     }
@@ -175,20 +177,20 @@ fn parity_weight<F: Field>(sizes: Sizes, damage: &Damage, plan: &Plan, i: usize,
     }
 }
 
-// The weights of all rows in parity row i, worked from the data rows.
+// The weights of the tray's rows in parity row i, worked from the data rows.
 fn parity_weights<F: Field>(sizes: Sizes, damage: &Damage, plan: &Plan, i: usize) -> [usize; 68]
     ensures { sizes.data_rows ≤ 64 → sizes.data_rows + 4 ≤ F.Field.algebra.size → i < 4 → plan.now.count ≤ 4 → ((b : ℕ) → b < plan.now.count → slice_index plan.now.lost b < sizes.data_rows)
-        → (row : ℕ) → row < 68 → stored-at F.Field.algebra result row ≡ weight-of F.Field.algebra sizes.data_rows (flag damage.now) plan.now (sizes.data_rows + i) row }
+        → (row : ℕ) → row < sizes.data_rows + sizes.parity_rows → row < 68 → stored-at F.Field.algebra result row ≡ weight-of F.Field.algebra sizes.data_rows (flag damage.now) plan.now (sizes.data_rows + i) row }
 {
     let mut weights = [0; 68];
-    for row in 0..68 {
+    for row in 0..sizes.data_rows.saturating_add(sizes.parity_rows).min(68) {
         let weight: F = parity_weight(sizes, damage, plan, i, row);
         store(&mut weights, row, weight);
     }
     weights
 }
 
-// The weights of all rows in a lost data row, or in a parity row.
+// The weights of the tray's rows in a lost data row, or in a parity row.
 pub(crate) fn row_weights<F: Field>(
     sizes: Sizes,
     damage: &Damage,
@@ -197,10 +199,11 @@ pub(crate) fn row_weights<F: Field>(
 ) -> [usize; 68]
     ensures { sizes.data_rows ≤ 64 → sizes.parity_rows ≤ 4 → sizes.data_rows + 4 ≤ F.Field.algebra.size → row < sizes.data_rows + sizes.parity_rows
         → plan.now.count ≤ 4 → ((b : ℕ) → b < plan.now.count → slice_index plan.now.lost b < sizes.data_rows)
-        → (source : ℕ) → source < 68 → stored-at F.Field.algebra result source ≡ weight-of F.Field.algebra sizes.data_rows (flag damage.now) plan.now row source }
+        → (source : ℕ) → source < sizes.data_rows + sizes.parity_rows → stored-at F.Field.algebra result source ≡ weight-of F.Field.algebra sizes.data_rows (flag damage.now) plan.now row source }
 {
     if row < sizes.data_rows {
-        lost_weights::<F>(plan, picked(damage, 0, row, false).count)
+        let rows = sizes.data_rows.saturating_add(sizes.parity_rows);
+        lost_weights::<F>(plan, rows, picked(damage, 0, row, false).count)
     } else {
         parity_weights::<F>(sizes, damage, plan, row - sizes.data_rows)
     }

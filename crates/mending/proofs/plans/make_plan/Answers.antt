@@ -9,4 +9,4 @@ returns g c few four room enough =
     planned-by g.F.Field.algebra c.args.sizes.data_rows c.args.sizes.parity_rows (flag c.args.damage.now) few four room enough
     c.picked-lost.result.at c.picked-used.result.at c.all_weights-weights.result c.picked-lost.result.count c.picked-used.result.count
     (c.picked-lost.ensures.count (omega arith)) (c.picked-lost.ensures.at (omega arith)) (c.picked-used.ensures.count bound) (c.picked-used.ensures.at bound)
-    (c.all_weights-weights.ensures few)
+    (λ low square row h. c.all_weights-weights.ensures few low square row (omega (arith, c.saturating_add-rows.ensures)))
