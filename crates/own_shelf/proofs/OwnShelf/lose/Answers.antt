@@ -1,18 +1,18 @@
 use Rattle.std.proofs.Common.{sym, ◌∙◌, arith}
 use Rattle.own_shelf.proofs.Holes.{nothing-lost, place-lost}
-use Rattle.own_shelf.proofs.Spots.{aimed}
+use Rattle.own_shelf.proofs.Spots.{located}
 use Rattle.own_shelf.proofs.OwnShelf.lose.Goals as goal
 
 pub index_mut-requires : goal.index_mut-requires
 index_mut-requires g c =
     let s = c.args.self.now in
-    let a = aimed s.rows s.places s.symbols.items s.marks.items c.args.row c.args.place c.in-Some.at c.in-Some.ensures in
+    let a = located s.rows s.places s.symbols.items s.marks.items c.args.row c.args.place c.in-Some.at c.in-Some.ensures in
     omega (arith, s.marks.ok.0, a.1)
 
 pub returns-in-Some : goal.returns-in-Some
 returns-in-Some g c =
     let s = c.args.self.now in
-    let a = aimed s.rows s.places s.symbols.items s.marks.items c.args.row c.args.place c.in-Some.at c.in-Some.ensures in
+    let a = located s.rows s.places s.symbols.items s.marks.items c.args.row c.args.place c.in-Some.at c.in-Some.ensures in
     place-lost s.rows s.places s.symbols.items s.marks.items c.args.row c.args.place c.in-Some.at c.in-Some.ensures a.1
 
 pub returns-in_default : goal.returns-in_default
