@@ -1,7 +1,7 @@
 //! Random runs on the core and on the model, and what the first difference comes down to.
 
-use crate::model::{Arithmetic, Call};
 use crate::law::Claims;
+use crate::model::{Arithmetic, Call};
 use crate::proved::{outcome, Kind, Shelf};
 use crate::random::Random;
 use crate::runs::{expected, followed, random_case, Case, Length, Outcome, Step};

@@ -36,9 +36,9 @@ impl Twin {
         let parity = (0..tray.p).map(|i| {
             (0..tray.n)
                 .map(|place| {
-                    data.iter().enumerate().fold(0, |sum, (j, block)| {
-                        field.plus(sum, field.times(field.coefficient(i, j), block[place]))
-                    })
+                    data.iter()
+                        .enumerate()
+                        .fold(0, |sum, (j, block)| field.plus(sum, field.times(field.coefficient(i, j), block[place])))
                 })
                 .collect()
         });
@@ -69,7 +69,8 @@ impl Twin {
             }
             return made;
         };
-        let standings: Vec<Standing> = rows.iter().enumerate().map(|(row, twin)| Self::standing(tray, row, twin)).collect();
+        let standings: Vec<Standing> =
+            rows.iter().enumerate().map(|(row, twin)| Self::standing(tray, row, twin)).collect();
         if standings.contains(&Standing::Neither) {
             self.ended = true;
             return tray.call(call);
@@ -89,7 +90,8 @@ impl Twin {
             }
             Call::Mend => {
                 self.claims.mends += 1;
-                let equal = rows.iter().enumerate().all(|(row, twin)| Self::standing(tray, row, twin) == Standing::Equal);
+                let equal =
+                    rows.iter().enumerate().all(|(row, twin)| Self::standing(tray, row, twin) == Standing::Equal);
                 self.claims.broken += u64::from(equal != (struck <= tray.p));
             }
             Call::Write(row, start, symbols) => {

@@ -79,9 +79,10 @@ impl Arithmetic {
     pub fn card(&self, block: &[usize], m: usize) -> Vec<usize> {
         (0..m)
             .map(|c| {
-                block.iter().enumerate().fold(0, |sum, (place, symbol)| {
-                    self.plus(sum, self.times(self.power(c * place), *symbol))
-                })
+                block
+                    .iter()
+                    .enumerate()
+                    .fold(0, |sum, (place, symbol)| self.plus(sum, self.times(self.power(c * place), *symbol)))
             })
             .collect()
     }
@@ -163,18 +164,7 @@ impl<'a> Tray<'a> {
         } else {
             Vec::new()
         };
-        Tray {
-            field,
-            k,
-            p,
-            n,
-            m,
-            image,
-            taken: false,
-            round: Round::Resting,
-            sheet: vec![None; 68],
-            coefficients,
-        }
+        Tray { field, k, p, n, m, image, taken: false, round: Round::Resting, sheet: vec![None; 68], coefficients }
     }
 
     /// The shelf's rows and places: sections 3 and 10.
@@ -201,9 +191,8 @@ impl<'a> Tray<'a> {
 
     pub fn get(&self, row: usize, place: usize) -> Option<usize> {
         let (mark, code) = self.offsets(row, place);
-        let number = self.image[code..code + self.field.width]
-            .iter()
-            .fold(0, |number, byte| number << 8 | *byte as usize);
+        let number =
+            self.image[code..code + self.field.width].iter().fold(0, |number, byte| number << 8 | *byte as usize);
         (self.image[mark] == 1 && number < self.field.q).then_some(number)
     }
 
@@ -226,9 +215,7 @@ impl<'a> Tray<'a> {
         if !(1..=4096).contains(&self.n) || !(2..=8).contains(&self.m) {
             return false;
         }
-        self.field.q >= self.k + 4
-            && self.n <= self.field.reach
-            && self.shelf() == (self.k + self.p, self.n + self.m)
+        self.field.q >= self.k + 4 && self.n <= self.field.reach && self.shelf() == (self.k + self.p, self.n + self.m)
     }
 
     /// The symbols of a row's block, if it has no hole.
@@ -491,7 +478,8 @@ impl<'a> Tray<'a> {
             })
             .collect();
         for column in 0..lost.len() {
-            let pivot = (column..rows.len()).find(|row| rows[*row][column] != 0).expect("section 7: exactly one solution");
+            let pivot =
+                (column..rows.len()).find(|row| rows[*row][column] != 0).expect("section 7: exactly one solution");
             rows.swap(column, pivot);
             let scale = rows[column][column];
             for entry in rows[column].iter_mut() {

@@ -212,10 +212,7 @@ impl<F: Symbol> Tray<F> {
     }
 
     fn combination(&self, weights: &[F], place: usize) -> F {
-        weights
-            .iter()
-            .enumerate()
-            .fold(F::ZERO, |sum, (j, weight)| sum.plus(weight.times(self.symbol(j, place))))
+        weights.iter().enumerate().fold(F::ZERO, |sum, (j, weight)| sum.plus(weight.times(self.symbol(j, place))))
     }
 
     pub fn parity(&self) -> Vec<F> {
@@ -320,8 +317,7 @@ impl<F: Symbol> Tray<F> {
     /// The lost blocks: a small inverse once, and then a sum over the rows at each place.
     fn lost_blocks(&self, lost: &[usize], parity: &[usize], weights: &[Vec<F>]) -> Vec<Vec<F>> {
         let r = lost.len();
-        let square: Vec<Vec<F>> =
-            (0..r).map(|a| lost.iter().map(|j| weights[parity[a]][*j]).collect()).collect();
+        let square: Vec<Vec<F>> = (0..r).map(|a| lost.iter().map(|j| weights[parity[a]][*j]).collect()).collect();
         let inverse = inverted(square);
         let mut blocks = vec![Vec::with_capacity(self.n); r];
         for place in 0..self.n {

@@ -4,11 +4,33 @@ use crate::model::Call;
 use crate::runs::{Case, Outcome, Step};
 
 type Script = unsafe extern "C" fn(
-    *mut u8, usize, usize, usize, usize, usize, *const usize, usize, *mut usize, usize, *mut usize, usize,
+    *mut u8,
+    usize,
+    usize,
+    usize,
+    usize,
+    usize,
+    *const usize,
+    usize,
+    *mut usize,
+    usize,
+    *mut usize,
+    usize,
 );
 
 type Puts = unsafe extern "C" fn(
-    *mut u8, usize, usize, usize, usize, usize, usize, usize, *const usize, usize, *mut usize, usize,
+    *mut u8,
+    usize,
+    usize,
+    usize,
+    usize,
+    usize,
+    usize,
+    usize,
+    *const usize,
+    usize,
+    *mut usize,
+    usize,
 ) -> usize;
 
 type Parity = unsafe extern "C" fn(*mut u8, usize, usize, usize, usize, usize, bool, usize, *mut usize, usize);
@@ -113,7 +135,14 @@ pub fn parity(kind: Kind, shelf: Shelf, sizes: [usize; 4], image: &mut [u8], tim
 }
 
 /// Every put of an intake and of a write after it: a row, a place and a number.
-pub fn puts(kind: Kind, sizes: [usize; 4], image: &mut [u8], row: usize, start: usize, numbers: &[usize]) -> Vec<[usize; 3]> {
+pub fn puts(
+    kind: Kind,
+    sizes: [usize; 4],
+    image: &mut [u8],
+    row: usize,
+    start: usize,
+    numbers: &[usize],
+) -> Vec<[usize; 3]> {
     let function: Puts = match kind {
         Kind::Byte => tray_byte_puts,
         Kind::Counter => tray_counter_puts,

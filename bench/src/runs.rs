@@ -208,12 +208,8 @@ pub fn random_case(field: &Arithmetic, kind: Kind, length: Length, random: &mut 
         head[at] = head[at].wrapping_add(random.pick(&[1, usize::MAX]));
     }
     let mut case = Case { kind, sizes: head, image, steps: Vec::new() };
-    let mut writer = Writer {
-        field,
-        tray: Tray::new(field, head, case.image.clone()),
-        good: case.image.clone(),
-        steps: Vec::new(),
-    };
+    let mut writer =
+        Writer { field, tray: Tray::new(field, head, case.image.clone()), good: case.image.clone(), steps: Vec::new() };
     if writer.tray.fits() && random.percent(25) {
         writer.damage(random);
     }
@@ -293,9 +289,7 @@ impl Writer<'_> {
 
     fn symbols(&self, count: usize, random: &mut Random) -> Vec<usize> {
         let edges = [0, 1, self.field.q - 1, self.field.q - 2];
-        (0..count)
-            .map(|_| if random.percent(10) { random.pick(&edges) } else { random.below(self.field.q) })
-            .collect()
+        (0..count).map(|_| if random.percent(10) { random.pick(&edges) } else { random.below(self.field.q) }).collect()
     }
 
     fn step(&mut self, random: &mut Random) {
@@ -357,12 +351,10 @@ impl Writer<'_> {
         let (first, _) = self.tray.offsets(row, 0);
         let (_, code) = self.tray.offsets(row, 0);
         let places = self.tray.n + self.tray.m;
-        let own = |at: usize| {
-            (first..first + places).contains(&at) || (code..code + places * self.field.width).contains(&at)
-        };
-        let changes: Vec<usize> = (0..self.good.len())
-            .filter(|at| self.good[*at] != self.tray.image[*at] && (all || own(*at)))
-            .collect();
+        let own =
+            |at: usize| (first..first + places).contains(&at) || (code..code + places * self.field.width).contains(&at);
+        let changes: Vec<usize> =
+            (0..self.good.len()).filter(|at| self.good[*at] != self.tray.image[*at] && (all || own(*at))).collect();
         if changes.len() <= 400 {
             for at in changes {
                 self.overwrite(at, self.good[at]);

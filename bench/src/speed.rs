@@ -9,9 +9,9 @@ use std::hint::black_box;
 
 /// Each time is the least of so many rounds, in which the candidates take turns, in each of so many passes over all tables: what slows the
 /// machine for a while then spoils no cell.
-const ROUNDS: usize = 4;
+const ROUNDS: usize = 5;
 
-const PASSES: usize = 5;
+const PASSES: usize = 3;
 
 /// A round repeats a call for about so long.
 const ROUND_SECONDS: f64 = 0.008;
@@ -274,7 +274,8 @@ impl Bench {
         let mut image = self.image.clone();
         let mut numbers = vec![0; self.sizes[1] * self.sizes[2]];
         Box::new(move |times| {
-            let mut parity = |times| seconds(|| proved::parity(self.kind, shelf, self.sizes, &mut image, times, &mut numbers));
+            let mut parity =
+                |times| seconds(|| proved::parity(self.kind, shelf, self.sizes, &mut image, times, &mut numbers));
             Span { whole: parity(times), bare: parity(0) }
         })
     }
@@ -308,8 +309,8 @@ fn titled(kind: Kind, sizes: [usize; 4]) -> String {
 fn calls_table<F: Timed>(tables: &mut Tables, sizes: [usize; 4]) {
     let bench = Bench::new::<F>(sizes);
     tables.line(&format!("\n### {}\n", titled(F::KIND, sizes)));
-    tables.line(&format!("| call | core, image shelf | core, array shelf | plain Rust | image : plain | array : plain |"));
-    tables.line(&format!("| --- | --- | --- | --- | --- | --- |"));
+    tables.line("| call | core, image shelf | core, array shelf | plain Rust | image : plain | array : plain |");
+    tables.line("| --- | --- | --- | --- | --- | --- |");
     for what in [What::Audit, What::WriteOne, What::WriteBlock, What::Intake, What::MendNothing, What::MendAll] {
         let mut jobs = vec![bench.core(what, Shelf::Image), bench.plain_job::<F>(what)];
         if bench.on_arrays(what) {
@@ -330,21 +331,27 @@ fn calls_table<F: Timed>(tables: &mut Tables, sizes: [usize; 4]) {
 
 /// What a product by tables would change.
 fn tables_table(tables: &mut Tables, sizes: [usize; 4]) {
-    tables.line(&format!("\n### Plain Rust with products by tables, {}\n", titled(Kind::Byte, sizes)));
-    tables.line(&format!("| call | bit by bit | by tables | ratio |"));
-    tables.line(&format!("| --- | --- | --- | --- |"));
+    tables.line(&format!("\n### Plain Rust with products by tables: {}\n", titled(Kind::Byte, sizes)));
+    tables.line("| call | bit by bit | by tables | ratio |");
+    tables.line("| --- | --- | --- | --- |");
     let bench = Bench::new::<plain::Byte>(sizes);
     for what in [What::Audit, What::WriteBlock, What::Intake, What::MendAll] {
         let took = tables.times(&mut [bench.plain_job::<plain::Byte>(what), bench.plain_job::<plain::Tabled>(what)]);
-        tables.line(&format!("| {} | {} | {} | {:.1} |", what.name(), shown(took[0]), shown(took[1]), took[0] / took[1]));
+        tables.line(&format!(
+            "| {} | {} | {} | {:.1} |",
+            what.name(),
+            shown(took[0]),
+            shown(took[1]),
+            took[0] / took[1]
+        ));
     }
 }
 
 /// Times as one of the four sizes doubles, each for one symbol of what the call reads.
 fn growth_table<F: Timed>(tables: &mut Tables, title: &str, all: [[usize; 4]; 3]) {
     tables.line(&format!("\n### {title}, nanoseconds for each symbol\n"));
-    tables.line(&format!("| k, p, n, m | audit: core, plain | intake: core, plain | mend, p lost: core, plain | write of 1 symbol: core, plain |"));
-    tables.line(&format!("| --- | --- | --- | --- | --- |"));
+    tables.line("| k, p, n, m | audit: core, plain | intake: core, plain | mend, p lost: core, plain | write of 1 symbol: core, plain |");
+    tables.line("| --- | --- | --- | --- | --- |");
     for sizes in all {
         let bench = Bench::new::<F>(sizes);
         let [k, p, n, m] = sizes;
@@ -371,7 +378,14 @@ mod isal {
 
     extern "C" {
         fn ec_init_tables(k: i32, rows: i32, coefficients: *const u8, tables: *mut u8);
-        fn ec_encode_data(len: i32, k: i32, rows: i32, tables: *const u8, data: *const *const u8, coding: *const *mut u8);
+        fn ec_encode_data(
+            len: i32,
+            k: i32,
+            rows: i32,
+            tables: *const u8,
+            data: *const *const u8,
+            coding: *const *mut u8,
+        );
     }
 
     pub struct Encoder {
@@ -400,7 +414,14 @@ mod isal {
             let into: Vec<*mut u8> = coding.iter_mut().map(|block| block.as_mut_ptr()).collect();
             // SAFETY: k blocks and p blocks of one length each, and the tables made for k and p.
             unsafe {
-                ec_encode_data(length as i32, self.k as i32, self.p as i32, self.tables.as_ptr(), from.as_ptr(), into.as_ptr());
+                ec_encode_data(
+                    length as i32,
+                    self.k as i32,
+                    self.p as i32,
+                    self.tables.as_ptr(),
+                    from.as_ptr(),
+                    into.as_ptr(),
+                );
             }
         }
 
@@ -428,9 +449,9 @@ mod isal {
 
 #[cfg(isal)]
 fn parity_table(tables: &mut Tables) {
-    tables.line(&format!("\n### Parity of the blocks, byte field, beside ISA-L\n"));
-    tables.line(&format!("| k, p, n | core, image shelf | core, array shelf | plain Rust | plain Rust, products by tables | ISA-L | image : ISA-L | array : ISA-L | plain : ISA-L | tables : ISA-L |"));
-    tables.line(&format!("| --- | --- | --- | --- | --- | --- | --- | --- | --- | --- |"));
+    tables.line("\n### Parity of the blocks, byte field, beside ISA-L\n");
+    tables.line("| k, p, n | core, image shelf | core, array shelf | plain Rust | plain Rust, products by tables | ISA-L | image : ISA-L | array : ISA-L | plain : ISA-L | tables : ISA-L |");
+    tables.line("| --- | --- | --- | --- | --- | --- | --- | --- | --- | --- |");
     for [k, p, n] in [[10, 4, 64], [10, 4, 128], [10, 4, 255], [20, 4, 255], [40, 4, 255], [64, 4, 255]] {
         let bench = Bench::new::<plain::Byte>([k, p, n, 4]);
         let encoder = isal::Encoder::new(k, p);
@@ -459,7 +480,11 @@ fn parity_table(tables: &mut Tables) {
     let (k, p, n) = (10, 4, 65_536);
     let encoder = isal::Encoder::new(k, p);
     let took = tables.times(&mut [encoder.job(vec![vec![90; n]; k])]);
-    tables.line(&format!("\nISA-L alone, k = {k}, p = {p}, blocks of {n} bytes: {}, {:.1} GB/s of data.", shown(took[0]), (k * n) as f64 / took[0] / 1e9));
+    tables.line(&format!(
+        "\nISA-L alone, k = {k}, p = {p}, blocks of {n} bytes: {}, {:.1} GB/s of data.",
+        shown(took[0]),
+        (k * n) as f64 / took[0] / 1e9
+    ));
 }
 
 /// ISA-L, the core and the plain code work the same parity.
@@ -479,7 +504,7 @@ fn assert_same(bench: &Bench, encoder: &isal::Encoder, data: &[Vec<u8>]) {
 
 #[cfg(not(isal))]
 fn parity_table(tables: &mut Tables) {
-    tables.line(&format!("\nISA-L is not on this machine, so parity was not timed beside it."));
+    tables.line("\nISA-L is not on this machine, so parity was not timed beside it.");
 }
 
 fn all_tables(tables: &mut Tables) {
@@ -491,8 +516,16 @@ fn all_tables(tables: &mut Tables) {
     calls_table::<plain::Counter>(tables, [2, 2, 3, 2]);
     growth_table::<plain::Byte>(tables, "Byte field, n doubles", [[10, 4, 62, 4], [10, 4, 124, 4], [10, 4, 248, 4]]);
     growth_table::<plain::Byte>(tables, "Byte field, k doubles", [[16, 4, 255, 4], [32, 4, 255, 4], [64, 4, 255, 4]]);
-    growth_table::<plain::Counter>(tables, "Counter field, n doubles", [[10, 4, 1_024, 4], [10, 4, 2_048, 4], [10, 4, 4_096, 4]]);
-    growth_table::<plain::Counter>(tables, "Counter field, k doubles", [[16, 4, 1_024, 4], [32, 4, 1_024, 4], [64, 4, 1_024, 4]]);
+    growth_table::<plain::Counter>(
+        tables,
+        "Counter field, n doubles",
+        [[10, 4, 1_024, 4], [10, 4, 2_048, 4], [10, 4, 4_096, 4]],
+    );
+    growth_table::<plain::Counter>(
+        tables,
+        "Counter field, k doubles",
+        [[16, 4, 1_024, 4], [32, 4, 1_024, 4], [64, 4, 1_024, 4]],
+    );
     parity_table(tables);
     tables_table(tables, [10, 4, 255, 4]);
 }

@@ -1,5 +1,6 @@
-// Trays for callers in C and Rust: one function runs a whole script of calls over an image in lent bytes, and another times calls over lent
-// memory. Nothing is kept between calls. That these functions are safe and return is proved; what they answer is compared with another program (bench/).
+// Trays for callers in C and Rust, for each field: a whole script of calls over an image in lent bytes, the same over lent symbols and marks, the parity
+// rows alone, and the puts of a write one by one. Nothing is kept from one function to the next, so a caller holds no tray.
+// That these functions are safe and return is proved. What they answer is not: bench/ compares it with a program of its own.
 #![tactic(auto)]
 
 mod answers;

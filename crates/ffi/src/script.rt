@@ -80,7 +80,7 @@ where
     }
 }
 
-// Makes one call. Its symbols, lent to read and given to write, are `count` of the numbers, and come back as the call leaves them.
+// Makes one call, by its number in the order of the rules: 0 is fit and 11, as every other number, mend. Its symbols, lent to read and given to write, are `count` of the numbers, and come back as the call leaves them.
 pub fn make_call<S: Shelf>(
     tray: &mut Tray<S>,
     step: &Step,
