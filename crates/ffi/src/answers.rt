@@ -67,14 +67,14 @@ fn refused(refusal: Refusal) -> Answer {
     ]
 }
 
-pub fn of_done(answered: Result<(), Refusal>) -> Answer {
+pub(crate) fn of_done(answered: Result<(), Refusal>) -> Answer {
     match answered {
         Ok(()) => accepted(DONE, 0, 0),
         Err(refusal) => refused(refusal),
     }
 }
 
-pub fn of_verdict(answered: Result<Verdict, Refusal>) -> Answer {
+pub(crate) fn of_verdict(answered: Result<Verdict, Refusal>) -> Answer {
     match answered {
         Ok(verdict) => {
             let (kind, at) = verdict_numbers(verdict);
@@ -84,14 +84,14 @@ pub fn of_verdict(answered: Result<Verdict, Refusal>) -> Answer {
     }
 }
 
-pub fn of_counts(answered: Result<(usize, usize), Refusal>) -> Answer {
+pub(crate) fn of_counts(answered: Result<(usize, usize), Refusal>) -> Answer {
     match answered {
         Ok((sound, others)) => accepted(COUNTS, sound, others),
         Err(refusal) => refused(refusal),
     }
 }
 
-pub fn of_entry(answered: Result<Entry, Refusal>) -> Answer {
+pub(crate) fn of_entry(answered: Result<Entry, Refusal>) -> Answer {
     match answered {
         Ok(Entry::Unread) => accepted(UNREAD, 0, 0),
         Ok(Entry::Read(verdict)) => of_verdict(Ok(verdict)),
@@ -99,7 +99,7 @@ pub fn of_entry(answered: Result<Entry, Refusal>) -> Answer {
     }
 }
 
-pub fn of_lowest(answered: Result<Option<usize>, Refusal>) -> Answer {
+pub(crate) fn of_lowest(answered: Result<Option<usize>, Refusal>) -> Answer {
     match answered {
         Ok(Some(row)) => accepted(LOWEST, row, 0),
         Ok(None) => accepted(NO_ROW, 0, 0),
@@ -107,7 +107,7 @@ pub fn of_lowest(answered: Result<Option<usize>, Refusal>) -> Answer {
     }
 }
 
-pub fn of_mended(answered: Result<usize, Refusal>) -> Answer {
+pub(crate) fn of_mended(answered: Result<usize, Refusal>) -> Answer {
     match answered {
         Ok(count) => accepted(MENDED, count, 0),
         Err(refusal) => refused(refusal),

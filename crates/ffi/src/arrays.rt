@@ -8,7 +8,12 @@ use shelves::{Got, Shelf};
 pub const CAPACITY: usize = 279_072;
 
 // Sets symbols and marks, row after row, as the shelf has them.
-pub fn unpack<S: Shelf>(shelf: &S, places: usize, symbols: &mut [S::Symbol], marks: &mut [u8])
+pub(crate) fn unpack<S: Shelf>(
+    shelf: &S,
+    places: usize,
+    symbols: &mut [S::Symbol],
+    marks: &mut [u8],
+)
 where
     S::Symbol: Field,
 {
@@ -24,7 +29,7 @@ where
 }
 
 // Puts on the shelf what the memory has a symbol for.
-pub fn pack<S: Shelf>(shelf: &mut S, places: usize, symbols: &[S::Symbol], marks: &[u8])
+pub(crate) fn pack<S: Shelf>(shelf: &mut S, places: usize, symbols: &[S::Symbol], marks: &[u8])
 where
     S::Symbol: Field,
 {
@@ -53,7 +58,7 @@ where
 }
 
 // Works all parity rows so many times, as intake does to compare them.
-pub fn parity<S: Shelf>(shelf: &S, sizes: Sizes, times: usize, numbers: &mut [usize])
+pub(crate) fn parity<S: Shelf>(shelf: &S, sizes: Sizes, times: usize, numbers: &mut [usize])
 where
     S::Symbol: Field,
 {

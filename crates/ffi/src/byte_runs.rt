@@ -20,7 +20,7 @@ fn damage<'a>(tray: &mut Tray<ByteImage<'a>>, step: &Step) -> Answer {
     [0; 5]
 }
 
-pub fn over_image(
+pub(crate) fn over_image(
     image: &mut [u8],
     sizes: Sizes,
     script: &[usize],
@@ -87,7 +87,7 @@ fn over_memory(
     pack(&mut shelf, places, &symbols[..size], &marks[..size]);
 }
 
-pub fn over_array(
+pub(crate) fn over_array(
     image: &mut [u8],
     sizes: Sizes,
     script: &[usize],
@@ -107,7 +107,12 @@ pub fn over_array(
     );
 }
 
-pub fn parity_over_image(image: &mut [u8], sizes: Sizes, times: usize, numbers: &mut [usize]) {
+pub(crate) fn parity_over_image(
+    image: &mut [u8],
+    sizes: Sizes,
+    times: usize,
+    numbers: &mut [usize],
+) {
     parity(&ByteImage::over(image), sizes, times, numbers);
 }
 
@@ -131,14 +136,19 @@ fn parity_over_memory(
     parity(&lent, sizes, times, numbers);
 }
 
-pub fn parity_over_array(image: &mut [u8], sizes: Sizes, times: usize, numbers: &mut [usize]) {
+pub(crate) fn parity_over_array(
+    image: &mut [u8],
+    sizes: Sizes,
+    times: usize,
+    numbers: &mut [usize],
+) {
     let mut symbols = [Byte(0); CAPACITY];
     let mut marks = [0u8; CAPACITY];
     parity_over_memory(image, &mut symbols, &mut marks, sizes, times, numbers);
 }
 
 // Takes an image in and writes symbols, over a shelf that writes down each put.
-pub fn puts(
+pub(crate) fn puts(
     image: &mut [u8],
     sizes: Sizes,
     row: usize,

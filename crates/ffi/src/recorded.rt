@@ -13,7 +13,7 @@ pub struct Recorded<'a, S> {
 }
 
 impl<'a, S> Recorded<'a, S> {
-    pub fn over(inner: S, puts: &'a mut [usize]) -> Recorded<'a, S> {
+    pub(crate) fn over(inner: S, puts: &'a mut [usize]) -> Recorded<'a, S> {
         Recorded {
             inner,
             puts,
@@ -21,7 +21,7 @@ impl<'a, S> Recorded<'a, S> {
         }
     }
 
-    pub fn count(&self) -> usize {
+    pub(crate) fn count(&self) -> usize {
         self.count
     }
 }

@@ -21,7 +21,7 @@ pub const SYMBOLS: usize = 4200;
 
 const WORDS: usize = 4;
 
-pub fn step_count(script: &[usize]) -> usize {
+pub(crate) fn step_count(script: &[usize]) -> usize {
     script.len() / WORDS
 }
 
@@ -33,7 +33,7 @@ fn word(words: &[usize], at: usize) -> usize {
 }
 
 // The step of an index; what the script is too short for is zero.
-pub fn step_at(script: &[usize], index: usize) -> Step {
+pub(crate) fn step_at(script: &[usize], index: usize) -> Step {
     let from = index.saturating_mul(WORDS);
     Step {
         call: word(script, from),
@@ -44,7 +44,7 @@ pub fn step_at(script: &[usize], index: usize) -> Step {
 }
 
 // Sets the symbols of a step's numbers.
-pub fn load<F: Field>(numbers: &[usize], from: usize, symbols: &mut [F]) {
+pub(crate) fn load<F: Field>(numbers: &[usize], from: usize, symbols: &mut [F]) {
     for (i, slot) in symbols.iter_mut().enumerate() {
         *slot = rows::element(word(numbers, from.saturating_add(i)));
     }
@@ -81,7 +81,7 @@ where
 }
 
 // Makes one call, by its number in the order of the rules: 0 is fit and 11, as every other number, mend. Its symbols, lent to read and given to write, are `count` of the numbers, and come back as the call leaves them.
-pub fn make_call<S: Shelf>(
+pub(crate) fn make_call<S: Shelf>(
     tray: &mut Tray<S>,
     step: &Step,
     numbers: &mut [usize],
@@ -100,7 +100,7 @@ where
 }
 
 // Writes down an answer, where there is room.
-pub fn note(answers: &mut [usize], index: usize, answer: &Answer) {
+pub(crate) fn note(answers: &mut [usize], index: usize, answer: &Answer) {
     for i in 0..5 {
         let at = index.saturating_mul(5).saturating_add(i);
         if at < answers.len() {
