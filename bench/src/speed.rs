@@ -371,140 +371,127 @@ fn growth_table<F: Timed>(tables: &mut Tables, title: &str, all: [[usize; 4]; 3]
     }
 }
 
-#[cfg(isal)]
-mod isal {
-    use super::{black_box, seconds, Bench, Job, Span};
-    use crate::model::Arithmetic;
-
-    extern "C" {
-        fn ec_init_tables(k: i32, rows: i32, coefficients: *const u8, tables: *mut u8);
-        fn ec_encode_data(
-            len: i32,
-            k: i32,
-            rows: i32,
-            tables: *const u8,
-            data: *const *const u8,
-            coding: *const *mut u8,
-        );
-    }
-
-    pub struct Encoder {
-        k: usize,
-        p: usize,
-        tables: Vec<u8>,
-    }
-
-    impl Encoder {
-        /// With the coefficients of section 5: ISA-L's field is the byte field.
-        pub fn new(k: usize, p: usize) -> Self {
-            let field = Arithmetic::byte();
-            let coefficients: Vec<u8> =
-                (0..p).flat_map(|i| (0..k).map(|j| field.coefficient(i, j) as u8).collect::<Vec<u8>>()).collect();
-            let mut tables = vec![0; 32 * k * p];
-            // SAFETY: k × p coefficients, and 32 bytes of tables for each.
-            unsafe { ec_init_tables(k as i32, p as i32, coefficients.as_ptr(), tables.as_mut_ptr()) };
-            Encoder { k, p, tables }
-        }
-
-        pub fn encode(&self, data: &[Vec<u8>], coding: &mut [Vec<u8>]) {
-            assert!(data.len() == self.k && coding.len() == self.p);
-            let length = data[0].len();
-            assert!(data.iter().chain(coding.iter()).all(|block| block.len() == length));
-            let from: Vec<*const u8> = data.iter().map(|block| block.as_ptr()).collect();
-            let into: Vec<*mut u8> = coding.iter_mut().map(|block| block.as_mut_ptr()).collect();
-            // SAFETY: k blocks and p blocks of one length each, and the tables made for k and p.
-            unsafe {
-                ec_encode_data(
-                    length as i32,
-                    self.k as i32,
-                    self.p as i32,
-                    self.tables.as_ptr(),
-                    from.as_ptr(),
-                    into.as_ptr(),
-                );
-            }
-        }
-
-        pub fn job(&self, data: Vec<Vec<u8>>) -> Job<'_> {
-            let mut coding = vec![vec![0; data[0].len()]; self.p];
-            Box::new(move |times| {
-                let whole = seconds(|| {
-                    for _ in 0..times {
-                        self.encode(black_box(&data), &mut coding);
-                        black_box(&coding);
-                    }
-                });
-                Span { whole, bare: 0.0 }
-            })
-        }
-    }
-
-    /// The data blocks of a benchmark's image.
-    pub fn blocks(bench: &Bench) -> Vec<Vec<u8>> {
-        let [k, p, n, m] = bench.sizes;
-        let codes = 6 + (k + p) * (n + m);
-        (0..k).map(|row| bench.image[codes + row * (n + m)..][..n].to_vec()).collect()
-    }
+/// The bytes of the data blocks of a benchmark's image, in the byte field.
+fn data_blocks(bench: &Bench) -> Vec<Vec<u8>> {
+    let [k, p, n, m] = bench.sizes;
+    let codes = 6 + (k + p) * (n + m);
+    (0..k).map(|row| bench.image[codes + row * (n + m)..][..n].to_vec()).collect()
 }
 
 #[cfg(isal)]
+mod isal {
+    use super::{black_box, seconds, Job, Span};
+    use crate::model::Arithmetic;
+
+    #[rustfmt::skip]
+    extern "C" {
+        fn ec_init_tables(k: i32, rows: i32, coefficients: *const u8, tables: *mut u8);
+        fn ec_encode_data(len: i32, k: i32, rows: i32, tables: *const u8, data: *const *const u8, coding: *const *mut u8);
+    }
+
+    /// 32 bytes for each coefficient of section 5: ISA-L's field is the byte field.
+    fn tables(k: usize, p: usize) -> Vec<u8> {
+        let field = Arithmetic::byte();
+        let pairs = (0..p).flat_map(|i| (0..k).map(move |j| (i, j)));
+        let coefficients: Vec<u8> = pairs.map(|(i, j)| field.coefficient(i, j) as u8).collect();
+        let mut tables = vec![0; 32 * k * p];
+        // SAFETY: k × p coefficients, and 32 bytes of tables for each.
+        unsafe { ec_init_tables(k as i32, p as i32, coefficients.as_ptr(), tables.as_mut_ptr()) };
+        tables
+    }
+
+    fn encode(tables: &[u8], data: &[Vec<u8>], coding: &mut [Vec<u8>]) {
+        let length = data[0].len();
+        assert!(data.iter().chain(coding.iter()).all(|block| block.len() == length));
+        assert_eq!(tables.len(), 32 * data.len() * coding.len());
+        let (k, p) = (data.len() as i32, coding.len() as i32);
+        let from: Vec<*const u8> = data.iter().map(|block| block.as_ptr()).collect();
+        let into: Vec<*mut u8> = coding.iter_mut().map(|block| block.as_mut_ptr()).collect();
+        // SAFETY: k blocks and p blocks of one length each, and the tables made for k and p.
+        unsafe { ec_encode_data(length as i32, k, p, tables.as_ptr(), from.as_ptr(), into.as_ptr()) };
+    }
+
+    pub fn parity(data: &[Vec<u8>], p: usize) -> Option<Vec<usize>> {
+        let mut coding = vec![vec![0; data[0].len()]; p];
+        encode(&tables(data.len(), p), data, &mut coding);
+        Some(coding.concat().into_iter().map(usize::from).collect())
+    }
+
+    pub fn job(data: Vec<Vec<u8>>, p: usize) -> Option<Job<'static>> {
+        let tables = tables(data.len(), p);
+        let mut coding = vec![vec![0; data[0].len()]; p];
+        Some(Box::new(move |times| {
+            let whole = seconds(|| {
+                for _ in 0..times {
+                    encode(&tables, black_box(&data), &mut coding);
+                    black_box(&coding);
+                }
+            });
+            Span { whole, bare: 0.0 }
+        }))
+    }
+}
+
+#[cfg(not(isal))]
+mod isal {
+    use super::Job;
+
+    pub fn parity(_data: &[Vec<u8>], _p: usize) -> Option<Vec<usize>> {
+        None
+    }
+
+    pub fn job(_data: Vec<Vec<u8>>, _p: usize) -> Option<Job<'static>> {
+        None
+    }
+}
+
+/// The core, the plain code and ISA-L, where it is there, work the same parity.
+fn assert_same(bench: &Bench, data: &[Vec<u8>]) {
+    let [_, p, n, _] = bench.sizes;
+    let plain: Vec<usize> = bench.plain::<plain::Byte>().parity().into_iter().map(|byte| byte.0 as usize).collect();
+    for shelf in [Shelf::Image, Shelf::Array] {
+        let mut numbers = vec![0; p * n];
+        let mut image = bench.image.clone();
+        proved::parity(bench.kind, shelf, bench.sizes, &mut image, 1, &mut numbers);
+        assert_eq!(numbers, plain);
+    }
+    if let Some(parity) = isal::parity(data, p) {
+        assert_eq!(parity, plain);
+    }
+}
+
 fn parity_table(tables: &mut Tables) {
     tables.line("\n### Parity of the blocks, byte field, beside ISA-L\n");
     tables.line("| k, p, n | core, image shelf | core, array shelf | plain Rust | plain Rust, products by tables | ISA-L | image : ISA-L | array : ISA-L | plain : ISA-L | tables : ISA-L |");
     tables.line("| --- | --- | --- | --- | --- | --- | --- | --- | --- | --- |");
     for [k, p, n] in [[10, 4, 64], [10, 4, 128], [10, 4, 255], [20, 4, 255], [40, 4, 255], [64, 4, 255]] {
         let bench = Bench::new::<plain::Byte>([k, p, n, 4]);
-        let encoder = isal::Encoder::new(k, p);
-        let data = isal::blocks(&bench);
-        assert_same(&bench, &encoder, &data);
-        let took = tables.times(&mut [
+        let data = data_blocks(&bench);
+        assert_same(&bench, &data);
+        let mut jobs = vec![
             bench.core_parity(Shelf::Image),
             bench.core_parity(Shelf::Array),
             bench.plain_parity::<plain::Byte>(),
             bench.plain_parity::<plain::Tabled>(),
-            encoder.job(data),
-        ]);
-        tables.line(&format!(
-            "| {k}, {p}, {n} | {} | {} | {} | {} | {} | {:.0} | {:.0} | {:.0} | {:.0} |",
-            shown(took[0]),
-            shown(took[1]),
-            shown(took[2]),
-            shown(took[3]),
-            shown(took[4]),
-            took[0] / took[4],
-            took[1] / took[4],
-            took[2] / took[4],
-            took[3] / took[4]
-        ));
+        ];
+        jobs.extend(isal::job(data, p));
+        let took = tables.times(&mut jobs);
+        let mut cells: Vec<String> = took.iter().map(|time| shown(*time)).collect();
+        if let [own @ .., isal] = &took[..] {
+            if took.len() == 5 {
+                cells.extend(own.iter().map(|time| format!("{:.0}", time / isal)));
+            }
+        }
+        cells.resize(9, String::new());
+        tables.line(&format!("| {k}, {p}, {n} | {} |", cells.join(" | ")));
     }
     let (k, p, n) = (10, 4, 65_536);
-    let encoder = isal::Encoder::new(k, p);
-    let took = tables.times(&mut [encoder.job(vec![vec![90; n]; k])]);
-    tables.line(&format!(
-        "\nISA-L alone, k = {k}, p = {p}, blocks of {n} bytes: {}, {:.1} GB/s of data.",
-        shown(took[0]),
-        (k * n) as f64 / took[0] / 1e9
-    ));
-}
-
-/// ISA-L, the core and the plain code work the same parity.
-#[cfg(isal)]
-fn assert_same(bench: &Bench, encoder: &isal::Encoder, data: &[Vec<u8>]) {
-    let [_, p, n, _] = bench.sizes;
-    let mut coding = vec![vec![0; n]; p];
-    encoder.encode(data, &mut coding);
-    let mut numbers = vec![0; p * n];
-    let mut image = bench.image.clone();
-    proved::parity(bench.kind, Shelf::Image, bench.sizes, &mut image, 1, &mut numbers);
-    let wanted: Vec<usize> = coding.concat().into_iter().map(usize::from).collect();
-    assert_eq!(numbers, wanted);
-    let plain: Vec<usize> = bench.plain::<plain::Byte>().parity().into_iter().map(|byte| byte.0 as usize).collect();
-    assert_eq!(plain, wanted);
-}
-
-#[cfg(not(isal))]
-fn parity_table(tables: &mut Tables) {
-    tables.line("\nISA-L is not on this machine, so parity was not timed beside it.");
+    if let Some(job) = isal::job(vec![vec![90; n]; k], p) {
+        let took = tables.times(&mut [job]);
+        let rate = (k * n) as f64 / took[0] / 1e9;
+        let time = shown(took[0]);
+        tables.line(&format!("\nISA-L alone, k = {k}, p = {p}, blocks of {n} bytes: {time}, {rate:.1} GB/s of data."));
+    }
 }
 
 fn all_tables(tables: &mut Tables) {
