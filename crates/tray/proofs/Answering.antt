@@ -7,7 +7,10 @@ use Rattle.std.proofs.lemmas.Bool.{not-false}
 use Rattle.std.proofs.lemmas.Bool.Decides.{nat_tests}
 use Rattle.std.proofs.lemmas.List.{length-map}
 use Rattle.algebra.specs.Algebra.{Field}
-use Rattle.shelves.specs.Contents.{Contents, is-hole}
+use Rattle.algebra.proofs.Cases.{by_cases}
+use Rattle.shelves.specs.Contents.{Contents, is-hole, within}
+use Rattle.shelves.proofs.Contents.{hole-is, same-contents}
+use Rattle.tray.specs.State.{on-contents, ExchangedAs}
 use Rattle.rules.specs.Calls.{Call, fit, intake, audit, read, write, cross, begin, step, totals, record_of, first, done, judged, copied, counts, entry-is, lowest-is, refused, wants-intake}
 use Rattle.rules.specs.Promises.{Promise, accepted, did-fit, did-intake, did-audit, did_read, did_write, did-cross, did-begin, did-step, did-totals, did-record, did-first}
 use Rattle.rules.specs.Search.{lowest, lowest-pair, counted}
@@ -272,3 +275,9 @@ module _ {A : Type 0} (F : Field A) (s : State A) where
     pub first-answered : (rows : ℕ) → rows ≡ k s + p s → Promise F s first (lowest-is (lowest rows (λ r. entry-bad (entry_of s r)))) s
     first-answered rows all =
         subst (λ v. Promise F s first (lowest-is (lowest v (λ r. entry-bad (entry_of s r)))) s) (sym all) (accepted (unrefused F s first (rw (e, t))) did-first)
+
+-- a shelf of the same sizes, put in the place of another, is other cells inside the sizes
+pub exchanged : {A : Type 0} (s : State A) (contents : Contents A) → ExchangedAs s contents (on-contents s contents)
+exchanged s contents rows places =
+    ap (on-contents s) (same-contents contents (with-cells s contents.at).contents rows places
+    (λ r t. by_cases (within s.contents.rows s.contents.places r t) (λ i. rw i) (λ o. rw o (hole-is _ (contents.beyond r t (ap₂ (λ a b. within a b r t) rows places ∙ o))))))

@@ -4,7 +4,7 @@ use Rattle.algebra.specs.Algebra.{Field}
 use Rattle.shelves.specs.Contents.{Contents}
 use Rattle.rules.specs.Calls.{Call, Answer, done, copied, counts, refused, wants-intake}
 use Rattle.rules.specs.Promises.{Promise}
-use Rattle.rules.specs.States.{State, fits}
+use Rattle.rules.specs.States.{State, fits, with-cells}
 use Rattle.rules.specs.Views.{seen-contents}
 use Rattle.rules.specs.declared.Refusal.{Refusal}
 use Rattle.tray.specs.declared.Tray.{Tray}
@@ -50,3 +50,7 @@ counts-of pair = counts pair.0 pair.1
 abbrev pub Ready : {A : Type 0} → Field A → State A → Result (Unit {0}) Refusal → Type 0
 Ready F s (Ok u) = (fits F s ≡ true) × (s.taken_in ≡ true)
 Ready {A} F s (Err r) = (c : Call A) → wants-intake c ≡ true → Promise F s c (refused r) s
+
+-- Where the sizes stay, an exchange is what damage does in a run: other cells inside the sizes, and nothing else.
+abbrev pub ExchangedAs : {A : Type 0} → State A → Contents A → State A → Type 0
+ExchangedAs s contents after = contents.rows ≡ s.contents.rows → contents.places ≡ s.contents.places → after ≡ with-cells s contents.at

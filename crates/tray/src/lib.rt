@@ -17,7 +17,7 @@ ghost use Rattle.rules.specs.Twins.{AuditFaithful, MendFaithful, Faithful};
 ghost use Rattle.rules.specs.Updates.{allowed};
 ghost use Rattle.rules.specs.Views.{seen, seen-contents};
 ghost use Rattle.rules.specs.Writes.{WriteExact};
-ghost use Rattle.tray.specs.State.{state, on-contents, answer-of, answer-by, read-answer, counts-of, Ready};
+ghost use Rattle.tray.specs.State.{state, on-contents, answer-of, answer-by, ExchangedAs, read-answer, counts-of, Ready};
 
 use algebra::Field;
 use rules::{Action, Entry, Refusal, Round, Sheet, Sizes, Verdict};
@@ -67,6 +67,7 @@ where
     // Exchanges the shelf for another and gives the old one back: what damage between calls amounts to, where the sizes stay. All else is as it was.
     pub fn replace_shelf(&mut self, shelf: S) -> S
         ensures state { state S.Shelf.contents S.Symbol.Field.meaning self.new ≡ on-contents (state S.Shelf.contents S.Symbol.Field.meaning self.old) (seen-contents S.Symbol.Field.meaning (S.Shelf.contents shelf)) }
+        ensures damage { ExchangedAs (state S.Shelf.contents S.Symbol.Field.meaning self.old) (seen-contents S.Symbol.Field.meaning (S.Shelf.contents shelf)) (state S.Shelf.contents S.Symbol.Field.meaning self.new) }
         ensures shelf { self.new.shelf ≡ shelf }
         ensures old { result ≡ self.old.shelf }
     {

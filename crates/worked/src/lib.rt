@@ -1,4 +1,4 @@
-// The worked examples of the rule book, and two theorems on the definitions, proved of them.
+// The worked examples of the rule book, and theorems on the definitions, proved of them.
 #![tactic(auto)]
 
 ghost use Rattle.std.specs.Prelude.{ℕ};
@@ -8,6 +8,7 @@ ghost use Rattle.rules.specs.Parity.{FirstRowOnes, FirstRowSums};
 ghost use Rattle.rules.specs.Twins.{GoesOn};
 ghost use Rattle.worked.specs.Examples.{Worked-examples};
 ghost use Rattle.worked.specs.Run.{Example-run};
+ghost use Rattle.worked.specs.Searches.{Lowests-are-lowest};
 
 // The worked examples of products, inverse, cards, coefficients, parity and a write hold. Those of spans and of mend are steps of the run below; those of fit are tested.
 pub fn worked_examples_hold()
@@ -28,4 +29,9 @@ pub fn first_parity_row_sums()
 // Every run of a tray goes on with any call: what a call does to the twin is always settled.
 pub fn runs_go_on()
     ensures { (q : ℕ) (F : Algebra (Below q)) → GoesOn F }
+{}
+
+// What a refusal names is the lowest row, and then the lowest place.
+pub fn searches_find_the_lowest()
+    ensures { Lowests-are-lowest }
 {}

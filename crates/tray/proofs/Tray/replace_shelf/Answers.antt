@@ -1,0 +1,12 @@
+use Rattle.std.proofs.Common.{ap, ◌∙◌}
+use Rattle.rules.specs.Views.{seen-contents}
+use Rattle.tray.specs.State.{state, on-contents}
+use Rattle.tray.proofs.Answering.{exchanged}
+use Rattle.tray.proofs.Tray.replace_shelf.Goals as goal
+
+pub returns-clause-damage : goal.returns-clause-damage
+returns-clause-damage g c rows places =
+    let meaning = g.S.Symbol.Field.meaning in
+    let s = state g.S.Shelf.contents meaning c.args.self.now in
+    ap (λ shelf. on-contents s (seen-contents meaning (g.S.Shelf.contents shelf))) c.replace.ensures.after
+    ∙ exchanged s (seen-contents meaning (g.S.Shelf.contents c.args.shelf)) rows places
