@@ -1,5 +1,5 @@
 -- From what a call tested to its promise.
-use Rattle.std.proofs.Common.{◌≡◌, ℕ, ◌+◌, ◌<◌, ◌≤◌, Bool, true, false, not, List, length, Some, None, Option, Ok, Err, sym, refl, ap, ◌∙◌, subst, subst₂, ap₂, arith, le-leb, zero-add, set}
+use Rattle.std.proofs.Common.{◌≡◌, ℕ, ◌+◌, ◌^◌, ◌<◌, ◌≤◌, Bool, true, false, not, List, length, Some, None, Option, Ok, Err, sym, refl, ap, ◌∙◌, subst, subst₂, ap₂, arith, le-leb, zero-add, set}
 use borrow.Author.Tests.{lt-leb}
 use Rattle.std.specs.Option.{option_map}
 use Rattle.std.specs.Prelude.{map}
@@ -29,7 +29,7 @@ use Rattle.rules.specs.Views.{seen, seen-cell, same-hole}
 use Rattle.rules.specs.declared.Sizes.{Sizes}
 use Rattle.writes.specs.Steps.{Readable, Writable}
 use Rattle.rules.proofs.Found.{lowest-none, lowest-pair-alike}
-use Rattle.rules.proofs.Rows.{sound-means}
+use Rattle.rules.proofs.Rows.{fitting, sound-means}
 use Rattle.rules.proofs.Refusals.{unrefused, refused-promise, walks_at}
 
 -- a stretch that starts at place 0
@@ -147,6 +147,10 @@ module _ {A : Type 0} (F : Field A) (s : State A) where
   -- a span of symbols is one of as many elements
   pub mapped-span : {X : Type 0} (meaning : X → A) (start : ℕ) (xs : List X) → allowed s start (length (map meaning xs)) ≡ allowed s start (length xs)
   mapped-span meaning start xs = ap (allowed s start) (length-map xs meaning)
+
+  -- the number of rows, where no sum of the sizes overflows
+  pub row-count : fits F s ≡ true → {v : ℕ} → (k s + p s < 2 ^ 64 → v ≡ k s + p s) → v ≡ k s + p s
+  row-count sized is = let f = fitting F s sized in is (omega arith)
 
   -- calls on a tray that is taken in
   module _ (e : fits F s ≡ true) (t : s.taken_in ≡ true) where

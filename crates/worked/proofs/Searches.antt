@@ -1,5 +1,5 @@
 -- The searches find the lowest.
-use Rattle.std.proofs.Common.{◌≡◌, ℕ, ◌<◌, Bool, Some, None, Option, refl}
+use Rattle.std.proofs.Common.{◌≡◌, ℕ, Bool, Some, None, Option, refl}
 use Rattle.rules.specs.Search.{lowest, lowest-pair}
 use Rattle.rules.proofs.Found.{lowest-none, lowest-some, lowest-pair-none, lowest-pair-some}
 use Rattle.worked.specs.Searches.{IsLowest, IsLowestPair, Lowests-are-lowest}

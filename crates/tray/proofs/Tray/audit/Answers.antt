@@ -1,11 +1,9 @@
-use Rattle.std.proofs.Common.{◌≡◌, ◌+◌, refl, arith}
+use Rattle.std.proofs.Common.{refl, arith}
 use Rattle.std.proofs.lemmas.Result.{err_from_is_err_and}
 use Rattle.rules.specs.Calls.{audit}
-use Rattle.rules.specs.States.{k, p}
 use Rattle.rules.proofs.Law.{faithful}
-use Rattle.rules.proofs.Rows.{fitting}
 use Rattle.tray.specs.State.{state}
-use Rattle.tray.proofs.Answering.{audit-no-row, audit-judged}
+use Rattle.tray.proofs.Answering.{row-count, audit-no-row, audit-judged}
 use Rattle.rules.proofs.Audits.{audit-exact, changes-seen, no-longer-sound}
 use Rattle.tray.proofs.Tray.audit.Goals as goal
 
@@ -13,16 +11,14 @@ pub returns-then-row-rows-clause-promise : goal.returns-then-row-rows-clause-pro
 returns-then-row-rows-clause-promise g c =
     let F = g.S.Symbol.Field.algebra in
     let s = state g.S.Shelf.contents g.S.Symbol.Field.meaning c.args.self.now in
-    let f = fitting F s c.in_ok-ready.ensures.0 in
-    let all : c.rows.result ≡ k s + p s = c.rows.ensures (omega arith) in
+    let all = row-count F s c.in_ok-ready.ensures.0 c.rows.ensures in
     audit-no-row F s c.in_ok-ready.ensures.0 c.in_ok-ready.ensures.1 c.args.row (omega arith)
 
 pub returns-clause-promise : goal.returns-clause-promise
 returns-clause-promise g c =
     let F = g.S.Symbol.Field.algebra in
     let s = state g.S.Shelf.contents g.S.Symbol.Field.meaning c.args.self.now in
-    let f = fitting F s c.in_ok-ready.ensures.0 in
-    let all : c.rows.result ≡ k s + p s = c.rows.ensures (omega arith) in
+    let all = row-count F s c.in_ok-ready.ensures.0 c.rows.ensures in
     audit-judged F s c.in_ok-ready.ensures.0 c.in_ok-ready.ensures.1 c.args.row c.audit.result (omega arith) (c.audit.ensures c.in_ok-ready.ensures.0)
 
 pub returns-in_err-ready-clause-exact : goal.returns-in_err-ready-clause-exact

@@ -1,9 +1,9 @@
-use Rattle.std.proofs.Common.{◌≡◌, ◌+◌, sym, ◌∙◌, arith}
+use Rattle.std.proofs.Common.{◌+◌, sym, ◌∙◌, arith}
 use Rattle.rules.specs.States.{k, p, n, m}
 use Rattle.rules.proofs.Found.{lowest-pair-some}
 use Rattle.rules.proofs.Rows.{fitting}
 use Rattle.tray.specs.State.{state}
-use Rattle.tray.proofs.Answering.{stretch-holes, cross-hole, cross-misfit, cross-fitting}
+use Rattle.tray.proofs.Answering.{row-count, stretch-holes, cross-hole, cross-misfit, cross-fitting}
 use Rattle.rules.proofs.Crosses.{cross-accepts}
 use Rattle.tray.proofs.Tray.cross.Goals as goal
 
@@ -13,7 +13,7 @@ returns-in-Some-clause-promise g c =
     let meaning = g.S.Symbol.Field.meaning in
     let s = state g.S.Shelf.contents meaning c.args.self.now in
     let f = fitting F s c.in_ok-ready.ensures.0 in
-    let all : c.rows.result ≡ k s + p s = c.rows.ensures (omega arith) in
+    let all = row-count F s c.in_ok-ready.ensures.0 c.rows.ensures in
     let hit = stretch-holes meaning (g.S.Shelf.contents c.args.self.now.shelf) (k s + p s) c.rows.result (n s) (m s) _ all (c.first_hole.ensures (omega arith)) ∙ c.in-Some.is in
     let low = lowest-pair-some (k s + p s) (m s) _ c.in-Some.row c.in-Some.component hit in
     cross-hole F s c.in_ok-ready.ensures.0 c.in_ok-ready.ensures.1 c.in-Some.row c.in-Some.component c.saturating_add.result (omega (arith, c.saturating_add.ensures, low.1)) hit
@@ -24,7 +24,7 @@ returns-in-Some-first_misfit-clause-promise g c =
     let meaning = g.S.Symbol.Field.meaning in
     let s = state g.S.Shelf.contents meaning c.args.self.now in
     let f = fitting F s c.in_ok-ready.ensures.0 in
-    let all : c.rows.result ≡ k s + p s = c.rows.ensures (omega arith) in
+    let all = row-count F s c.in_ok-ready.ensures.0 c.rows.ensures in
     let whole = stretch-holes meaning (g.S.Shelf.contents c.args.self.now.shelf) (k s + p s) c.rows.result (n s) (m s) _ all (c.first_hole.ensures (omega arith)) ∙ c.in_default.is in
     let hit = sym (c.first_misfit.ensures (omega arith) c.in_ok-ready.ensures.0) ∙ c.in-Some-first_misfit.is in
     let low = lowest-pair-some (p s) (m s) _ c.in-Some-first_misfit.i c.in-Some-first_misfit.component hit in
@@ -37,7 +37,7 @@ returns-clause-promise g c =
     let meaning = g.S.Symbol.Field.meaning in
     let s = state g.S.Shelf.contents meaning c.args.self.now in
     let f = fitting F s c.in_ok-ready.ensures.0 in
-    let all : c.rows.result ≡ k s + p s = c.rows.ensures (omega arith) in
+    let all = row-count F s c.in_ok-ready.ensures.0 c.rows.ensures in
     let whole = stretch-holes meaning (g.S.Shelf.contents c.args.self.now.shelf) (k s + p s) c.rows.result (n s) (m s) _ all (c.first_hole.ensures (omega arith)) ∙ c.in_default.is in
     cross-fitting F s c.in_ok-ready.ensures.0 c.in_ok-ready.ensures.1 whole (sym (c.first_misfit.ensures (omega arith) c.in_ok-ready.ensures.0) ∙ c.in_default-first_misfit.is)
 

@@ -1,11 +1,9 @@
-use Rattle.std.proofs.Common.{◌≡◌, ◌+◌, sym, ap, ◌∙◌, arith}
+use Rattle.std.proofs.Common.{sym, ap, ◌∙◌}
 use Rattle.std.proofs.lemmas.Result.{err_from_is_err_and}
-use Rattle.rules.specs.States.{k, p}
 use Rattle.rules.specs.Sheets.{turn-answer, turned}
 use Rattle.rules.specs.declared.Action.TheVariants.{Step}
-use Rattle.rules.proofs.Rows.{fitting}
 use Rattle.tray.specs.State.{state}
-use Rattle.tray.proofs.Answering.{step-refused, step-judged}
+use Rattle.tray.proofs.Answering.{row-count, step-refused, step-judged}
 use Rattle.tray.proofs.Tray.step.Goals as goal
 
 pub returns-in_err-row : goal.returns-in_err-row
@@ -19,8 +17,7 @@ pub returns : goal.returns
 returns g c =
     let F = g.S.Symbol.Field.algebra in
     let s = state g.S.Shelf.contents g.S.Symbol.Field.meaning c.args.self.now in
-    let f = fitting F s c.in_ok-ready.ensures.0 in
-    let all : c.rows-rows.result ≡ k s + p s = c.rows-rows.ensures (omega arith) in
+    let all = row-count F s c.in_ok-ready.ensures.0 c.rows-rows.ensures in
     step-judged F s c.in_ok-ready.ensures.0 c.in_ok-ready.ensures.1 c.in_ok-row.row c.act.new.self c.enter.new.self c.audit-verdict.result
     (ap (turn-answer s.round Step) (sym all) ∙ sym c.act.ensures.answer ∙ c.in_ok-row.was) (c.act.ensures.after ∙ ap (turned s.round Step) all)
     (c.audit-verdict.ensures c.in_ok-ready.ensures.0) c.enter.ensures

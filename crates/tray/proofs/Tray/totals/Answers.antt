@@ -1,9 +1,7 @@
-use Rattle.std.proofs.Common.{◌≡◌, ◌+◌, sym, ◌∙◌, arith}
+use Rattle.std.proofs.Common.{sym, ◌∙◌}
 use Rattle.std.proofs.lemmas.Result.{err_from_is_err_and}
-use Rattle.rules.specs.States.{k, p}
-use Rattle.rules.proofs.Rows.{fitting}
 use Rattle.tray.specs.State.{state}
-use Rattle.tray.proofs.Answering.{totals-refused, totals-counted}
+use Rattle.tray.proofs.Answering.{row-count, totals-refused, totals-counted}
 use Rattle.rules.proofs.Rounds.{round-exact}
 use Rattle.tray.proofs.Tray.totals.Goals as goal
 
@@ -18,8 +16,7 @@ pub returns-clause-promise : goal.returns-clause-promise
 returns-clause-promise g c =
     let F = g.S.Symbol.Field.algebra in
     let s = state g.S.Shelf.contents g.S.Symbol.Field.meaning c.args.self.now in
-    let f = fitting F s c.in_ok-ready.ensures.0 in
-    let all : c.rows-rows.result ≡ k s + p s = c.rows-rows.ensures (omega arith) in
+    let all = row-count F s c.in_ok-ready.ensures.0 c.rows-rows.ensures in
     totals-counted F s c.in_ok-ready.ensures.0 c.in_ok-ready.ensures.1 c.rows-rows.result c.act.new.self c.in_ok-walked.walked c.totals.result
     (sym c.act.ensures.answer ∙ c.in_ok-walked.was) c.act.ensures.after all c.totals.ensures.sound c.totals.ensures.others
 
