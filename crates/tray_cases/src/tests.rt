@@ -1,6 +1,6 @@
 mod calls;
 mod rounds;
-mod writes;
+mod written;
 
 use algebra::Field;
 use byte_field::Byte;
