@@ -5,31 +5,31 @@ use lib.Arith.{mod-mul}
 use Rattle.std.proofs.lemmas.List.{take_more, drop_more, drop-set-lt}
 use Rattle.algebra.specs.Code.{code, coded}
 
-pub length-code : (w v : ℕ) → length (code w v) ≡ w
-length-code zero v = refl
-length-code (suc w) v = ap suc (length-code w v)
+pub length_code : (w v : ℕ) → length (code w v) ≡ w
+length_code zero v = refl
+length_code (suc w) v = ap suc (length_code w v)
 
 positive : (w : ℕ) → 0 < 256 ^ w
 positive zero = rw (pow-zero 256) (lit< tt)
 positive (suc w) = rw (pow-succ' 256 w) (mul-pos (lit< tt) (positive w))
 
-pub coded-mod : (w v : ℕ) → coded (code w v) ≡ v % 256 ^ w
-coded-mod zero v = rw (pow-zero 256) (sym (mod-one v))
-coded-mod (suc w) v =
-    rw (length-code w v, coded-mod w v, pow-succ' 256 w) (sym (mod-mul v {m = 256} {c = 256 ^ w} (lit< tt) (positive w)))
+pub coded_mod : (w v : ℕ) → coded (code w v) ≡ v % 256 ^ w
+coded_mod zero v = rw (pow-zero 256) (sym (mod-one v))
+coded_mod (suc w) v =
+    rw (length_code w v, coded_mod w v, pow-succ' 256 w) (sym (mod-mul v {m = 256} {c = 256 ^ w} (lit< tt) (positive w)))
 
-pub coded-code : (w v : ℕ) → v < 256 ^ w → coded (code w v) ≡ v
-coded-code w v h = coded-mod w v ∙ mod-eq_of_lt h
+pub coded_code : (w v : ℕ) → v < 256 ^ w → coded (code w v) ≡ v
+coded_code w v h = coded_mod w v ∙ mod-eq_of_lt h
 
-coded-snoc : (xs : List ℕ) (b : ℕ) → coded (xs ++ b ∷ []) ≡ coded xs * 256 + b
-coded-snoc [] b = omega arith
-coded-snoc (x ∷ xs) b =
+coded_snoc : (xs : List ℕ) (b : ℕ) → coded (xs ++ b ∷ []) ≡ coded xs * 256 + b
+coded_snoc [] b = omega arith
+coded_snoc (x ∷ xs) b =
     let l : length (xs ++ b ∷ []) ≡ suc (length xs) = simp length-append (omega arith) in
-    rw (l, coded-snoc xs b, pow-succ' 256 (length xs)) (omega arith)
+    rw (l, coded_snoc xs b, pow-succ' 256 (length xs)) (omega arith)
 
 -- one byte more
-pub coded-more : (xs : List ℕ) (i : ℕ) → i < length xs → coded (take (i + 1) xs) ≡ coded (take i xs) * 256 + get_or xs i 0
-coded-more xs i h = rw (take_more xs i 0 h) (coded-snoc (take i xs) (get_or xs i 0))
+pub coded_more : (xs : List ℕ) (i : ℕ) → i < length xs → coded (take (i + 1) xs) ≡ coded (take i xs) * 256 + get_or xs i 0
+coded_more xs i h = rw (take_more xs i 0 h) (coded_snoc (take i xs) (get_or xs i 0))
 
 pub next_power : (v i b : ℕ) → v < 256 ^ i → b < 256 → v * 256 + b < 256 ^ (i + 1)
 next_power v i b h k = rw (add-one i, pow-succ' 256 i) (omega arith)
@@ -43,9 +43,9 @@ rest_more number len j h k =
     let e : len - (j - 1) ≡ suc (len - j) = omega arith in
     rw (e, pow-suc 256 (len - j)) (div-div-eq-div-mul number (256 ^ (len - j)) 256)
 
-pub code-more : (number j : ℕ) (bytes : List ℕ) → 0 < j → j ≤ length bytes → drop j bytes ≡ code (length bytes - j) number
+pub code_more : (number j : ℕ) (bytes : List ℕ) → 0 < j → j ≤ length bytes → drop j bytes ≡ code (length bytes - j) number
     → drop (j - 1) (set bytes (j - 1) (number / 256 ^ (length bytes - j) % 256)) ≡ code (length bytes - (j - 1)) number
-code-more number j bytes h k e =
+code_more number j bytes h k e =
     let v : ℕ = number / 256 ^ (length bytes - j) % 256 in
     let s : length bytes - (j - 1) ≡ suc (length bytes - j) = omega arith in
     let t : j - 1 + 1 ≡ j = omega arith in

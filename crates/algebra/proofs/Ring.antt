@@ -55,11 +55,11 @@ module _ {A : Type 0} (F : Field A) where
   pub add-sub : (x y : A) → x ⊕ y ⊕ neg y ≡ x
   add-sub x y = add_assoc x y (neg y) ∙ rw (add-neg y) (add-zero x)
 
-  pub add-cancel : (x y z : A) → x ⊕ z ≡ y ⊕ z → x ≡ y
-  add-cancel x y z e = sym (add-sub x z) ∙ ap (λ w. w ⊕ neg z) e ∙ add-sub y z
+  pub add_cancel : (x y z : A) → x ⊕ z ≡ y ⊕ z → x ≡ y
+  add_cancel x y z e = sym (add-sub x z) ∙ ap (λ w. w ⊕ neg z) e ∙ add-sub y z
 
   pub mul-zero : (x : A) → x ⊙ 𝟘 ≡ 𝟘
-  mul-zero x = add-cancel _ _ (x ⊙ 𝟘) (sym (mul-add x 𝟘 𝟘) ∙ simp (add-zero, zero-add))
+  mul-zero x = add_cancel _ _ (x ⊙ 𝟘) (sym (mul-add x 𝟘 𝟘) ∙ simp (add-zero, zero-add))
 
   pub zero-mul : (x : A) → 𝟘 ⊙ x ≡ 𝟘
   zero-mul x = mul_comm 𝟘 x ∙ mul-zero x
@@ -67,11 +67,11 @@ module _ {A : Type 0} (F : Field A) where
   pub sub-zero : (x y : A) → x ⊕ neg y ≡ 𝟘 → x ≡ y
   sub-zero x y e = sym (sub-add x y) ∙ rw e (zero-add y)
 
-  pub sub-chain : (x y z : A) → x ⊕ neg y ⊕ (y ⊕ neg z) ≡ x ⊕ neg z
-  sub-chain x y z = sym (add_assoc _ y (neg z)) ∙ rw (sub-add x y)
+  pub sub_chain : (x y z : A) → x ⊕ neg y ⊕ (y ⊕ neg z) ≡ x ⊕ neg z
+  sub_chain x y z = sym (add_assoc _ y (neg z)) ∙ rw (sub-add x y)
 
-  pub sub-nonzero : (x y : A) → x ≢ y → x ⊕ neg y ≢ 𝟘
-  sub-nonzero x y h e = h (sub-zero x y e)
+  pub sub_nonzero : (x y : A) → x ≢ y → x ⊕ neg y ≢ 𝟘
+  sub_nonzero x y h e = h (sub-zero x y e)
 
   pub mul-inv : (x : A) → x ≢ 𝟘 → (y : A) → x ⊙ (inv x ⊙ y) ≡ y
   mul-inv x h y = sym (mul_assoc x (inv x) y) ∙ rw (F.mul-inv x h) (one-mul y)
@@ -79,14 +79,14 @@ module _ {A : Type 0} (F : Field A) where
   pub inv-mul : (x : A) → x ≢ 𝟘 → (y : A) → inv x ⊙ (x ⊙ y) ≡ y
   inv-mul x h y = mul_left_comm (inv x) x y ∙ mul-inv x h y
 
-  pub mul-cancel : (x y z : A) → x ≢ 𝟘 → x ⊙ y ≡ x ⊙ z → y ≡ z
-  mul-cancel x y z h e = sym (inv-mul x h y) ∙ rw e (inv-mul x h z)
+  pub mul_cancel : (x y z : A) → x ≢ 𝟘 → x ⊙ y ≡ x ⊙ z → y ≡ z
+  mul_cancel x y z h e = sym (inv-mul x h y) ∙ rw e (inv-mul x h z)
 
-  pub factor-zero : (x y : A) → x ≢ 𝟘 → x ⊙ y ≡ 𝟘 → y ≡ 𝟘
-  factor-zero x y h e = mul-cancel x y 𝟘 h (e ∙ sym (mul-zero x))
+  pub factor_zero : (x y : A) → x ≢ 𝟘 → x ⊙ y ≡ 𝟘 → y ≡ 𝟘
+  factor_zero x y h e = mul_cancel x y 𝟘 h (e ∙ sym (mul-zero x))
 
-  pub inv-nonzero : (x : A) → x ≢ 𝟘 → inv x ≢ 𝟘
-  inv-nonzero x h e = F.one-nonzero (sym (F.mul-inv x h) ∙ rw e (mul-zero x))
+  pub inv_nonzero : (x : A) → x ≢ 𝟘 → inv x ≢ 𝟘
+  inv_nonzero x h e = F.one_nonzero (sym (F.mul-inv x h) ∙ rw e (mul-zero x))
 
   -- Both sides of an equation between sums of products, written alike.
   pub ruleset ring = (add-zero, zero-add, mul-one, one-mul, mul-zero, zero-mul, add_assoc, add_comm, add_left_comm, mul_assoc, mul_comm, mul_left_comm, mul-add, add-mul)

@@ -7,11 +7,11 @@ use mathlib.Core.List.Memᴰ.{tail as later}
 use mathlib.Core.List.{Memᴰ as In}
 use native.Mathlib.Decide.{dec_lt, ℕ_discrete}
 use Rattle.algebra.specs.Algebra.{Field, power, Distinct}
-use Rattle.algebra.proofs.Ring.{ring, add-neg, sub-add, sub-zero, zero-mul, mul-zero, factor-zero, sub-nonzero, add-zero}
-use Rattle.algebra.proofs.Powers.{power-power}
+use Rattle.algebra.proofs.Ring.{ring, add-neg, sub-add, sub-zero, zero-mul, mul-zero, factor_zero, sub_nonzero, add-zero}
+use Rattle.algebra.proofs.Powers.{power_power}
 use Rattle.algebra.specs.Sum.{sum_to}
-use Rattle.algebra.specs.Theorems.{Signatures-find-changes}
-use Rattle.algebra.proofs.Sums.{sum-mul, sum-add, sum_one, sum_same}
+use Rattle.algebra.specs.Theorems.{SignaturesFindChanges}
+use Rattle.algebra.proofs.Sums.{sum_mul, sum-add, sum_one, sum_same}
 
 -- one place less to look at
 narrowed : {P Q : Type 0} {i t : ℕ} {ps : List ℕ} → P ⊎ In i (t ∷ ps) → (P → Q) → (i ≡ t → Q) → Q ⊎ In i ps
@@ -37,19 +37,19 @@ module _ {A : Type 0} (F : Field A) where
 
   removed : (n : ℕ) (x δ : ℕ → A) (l : A) (c : ℕ) → moment n x (without l x δ) c ⊕ l ⊙ moment n x δ c ≡ moment n x δ (suc c)
   removed n x δ l c =
-      rw (← (sum-mul F n l λ i. power F (x i) c ⊙ δ i)) (sym (sum-add F n _ _))
+      rw (← (sum_mul F n l λ i. power F (x i) c ⊙ δ i)) (sym (sum-add F n _ _))
       ∙ ap (sum_to F n) (fun_ext λ i. rw (sub-add F (x i) l) at (collected (power F (x i) c) (x i ⊕ neg l) l (δ i)))
 
   -- If nothing is left without the place t, nothing was there but at t, and the sum shows that.
   alone : (n : ℕ) (x : ℕ → A) → Distinct n x → (t : ℕ) → t < n → (δ : ℕ → A)
       → ((i : ℕ) → i < n → without (x t) x δ i ≡ 𝟘) → moment n x δ 0 ≡ 𝟘 → (i : ℕ) → i < n → δ i ≡ 𝟘
-  alone n x dis t inside δ left sum i h = elim (ℕ_discrete i t) [ yes e ↦ rw e (factor-zero F 𝟙 (δ t) F.one-nonzero at-t) | no ne ↦ other i h ne ]
+  alone n x dis t inside δ left sum i h = elim (ℕ_discrete i t) [ yes e ↦ rw e (factor_zero F 𝟙 (δ t) F.one_nonzero at_t) | no ne ↦ other i h ne ]
     where
       other : (j : ℕ) → j < n → j ≢ t → δ j ≡ 𝟘
-      other j k ne = factor-zero F _ _ (sub-nonzero F _ _ (dis j t k inside ne)) (left j k)
+      other j k ne = factor_zero F _ _ (sub_nonzero F _ _ (dis j t k inside ne)) (left j k)
 
-      at-t : 𝟙 ⊙ δ t ≡ 𝟘
-      at-t = sym (sum_one F n (λ j. 𝟙 ⊙ δ j) t inside λ j k ne. rw (other j k ne) (mul-zero F 𝟙)) ∙ sum
+      at_t : 𝟙 ⊙ δ t ≡ 𝟘
+      at_t = sym (sum_one F n (λ j. 𝟙 ⊙ δ j) t inside λ j k ne. rw (other j k ne) (mul-zero F 𝟙)) ∙ sum
 
   -- δ is zero at each place below n that is not in ps: as many moments as ps has places show that it is zero there too.
   pub detect : (n : ℕ) (x : ℕ → A) → Distinct n x → (ps : List ℕ) (δ : ℕ → A)
@@ -86,8 +86,8 @@ module _ {A : Type 0} (F : Field A) where
       off' j k = elim (off j k) [ inl e ↦ inl (rw e (add-neg F (g j))) | inr p ↦ inr p ]
 
       sig : (c : ℕ) → c < length ps → moment n (power F α) (λ j. f j ⊕ neg (g j)) c ≡ 𝟘
-      sig c k = sum_same F n (λ j. power F (power F α j) c) f g (simp (power-power F α c) at (same c (omega arith)))
+      sig c k = sum_same F n (λ j. power F (power F α j) c) f g (simp (power_power F α c) at (same c (omega arith)))
 
-  pub signatures-find-changes : Signatures-find-changes F
-  signatures-find-changes n m reached f g places few off same =
-      same_block n F.α (λ i j h k. F.α-powers i j (omega arith) (omega arith)) m places few f g off same
+  pub signatures_find_changes : SignaturesFindChanges F
+  signatures_find_changes n m reached f g places few off same =
+      same_block n F.α (λ i j h k. F.α_powers i j (omega arith) (omega arith)) m places few f g off same

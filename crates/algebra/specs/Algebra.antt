@@ -2,9 +2,9 @@
 use Rattle.std.specs.Prelude.{◌≡◌, ℕ, zero, suc, ◌<◌, cond, ◌≢◌, Some, None, Option, nat_lt}
 
 -- x multiplied k times, by a product of any kind
-abbrev pub power-by : {A : Type 0} → A → (A → A → A) → A → ℕ → A
-power-by one mul x zero = one
-power-by one mul x (suc k) = mul x (power-by one mul x k)
+abbrev pub power_by : {A : Type 0} → A → (A → A → A) → A → ℕ → A
+power_by one mul x zero = one
+power_by one mul x (suc k) = mul x (power_by one mul x k)
 
 -- x 0, .., x (n - 1) are pairwise different
 abbrev pub Distinct : {A : Type 0} → ℕ → (ℕ → A) → Type 0
@@ -31,20 +31,20 @@ pub record Field (A : Type 0) : Type 0 where
   pub mul_comm : (x y : A) → mul x y ≡ mul y x
   pub mul-one : (x : A) → mul x one ≡ x
   pub mul-add : (x y z : A) → mul x (add y z) ≡ add (mul x y) (mul x z)
-  pub one-nonzero : one ≢ zer
+  pub one_nonzero : one ≢ zer
   pub inv-zero : inv zer ≡ zer
   pub mul-inv : (x : A) → x ≢ zer → mul x (inv x) ≡ one
   pub number_bound : (x : A) → number x < size
-  pub element-number : (x : A) → element (number x) ≡ x
-  pub number-element : (v : ℕ) → v < size → number (element v) ≡ v
-  pub element-zero : element 0 ≡ zer
-  pub element-one : element 1 ≡ one
-  pub α-nonzero : α ≢ zer
-  pub α-powers : Distinct reach (power-by one mul α)
+  pub element_number : (x : A) → element (number x) ≡ x
+  pub number_element : (v : ℕ) → v < size → number (element v) ≡ v
+  pub element_zero : element 0 ≡ zer
+  pub element_one : element 1 ≡ one
+  pub α_nonzero : α ≢ zer
+  pub α_powers : Distinct reach (power_by one mul α)
 
 module _ {A : Type 0} (F : Field A) where
   abbrev pub power : A → ℕ → A
-  power = power-by F.one F.mul
+  power = power_by F.one F.mul
 
   abbrev pub minus : A → A → A
   minus x y = F.add x (F.neg y)

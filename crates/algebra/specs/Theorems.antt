@@ -8,8 +8,8 @@ use Rattle.algebra.specs.Cauchy.{solve}
 
 module _ {A : Type 0} (F : Field A) where
   -- Two blocks of n symbols, n at most the reach, that differ at no places but at most m and have the same first m signatures are equal.
-  abbrev pub Signatures-find-changes : Type 0
-  Signatures-find-changes = (n m : ℕ) → n ≤ F.reach → (f g : ℕ → A) (places : List ℕ) → length places ≤ m
+  abbrev pub SignaturesFindChanges : Type 0
+  SignaturesFindChanges = (n m : ℕ) → n ≤ F.reach → (f g : ℕ → A) (places : List ℕ) → length places ≤ m
       → ((i : ℕ) → i < n → (f i ≡ g i) ⊎ In i places)
       → ((c : ℕ) → c < m → signature F n f (power F F.α c) ≡ signature F n g (power F F.α c))
       → (i : ℕ) → i < n → f i ≡ g i
@@ -25,10 +25,10 @@ module _ {A : Type 0} (F : Field A) where
   -- r different parity rows, below 4, and r different data rows, of k that the field has room for
   pub record Square (k r : ℕ) (rows columns : ℕ → ℕ) : Type 0 where
     pub room : k + 4 ≤ F.size
-    pub rows-below : (i : ℕ) → i < r → rows i < 4
-    pub columns-below : (j : ℕ) → j < r → columns j < k
-    pub rows-differ : Distinct r rows
-    pub columns-differ : Distinct r columns
+    pub rows_below : (i : ℕ) → i < r → rows i < 4
+    pub columns_below : (j : ℕ) → j < r → columns j < k
+    pub rows_differ : Distinct r rows
+    pub columns_differ : Distinct r columns
 
   module _ (r : ℕ) (rows columns : ℕ → ℕ) (c : ℕ → A) where
     -- x solves the r equations: row i of the matrix times x is c i
@@ -40,7 +40,7 @@ module _ {A : Type 0} (F : Field A) where
     solution j = F.mul (F.inv (scale (columns j))) (solve F r (λ i. F.element (rows i)) (λ l. F.element (4 + columns l)) c j)
 
   -- Any r rows of the parity matrix against any r columns have exactly one solution, for every right-hand side, and the recursion finds it.
-  abbrev pub Exactly-one-solution : Type 0
-  Exactly-one-solution = (k r : ℕ) (rows columns : ℕ → ℕ) → Square k r rows columns → (c : ℕ → A)
+  abbrev pub ExactlyOneSolution : Type 0
+  ExactlyOneSolution = (k r : ℕ) (rows columns : ℕ → ℕ) → Square k r rows columns → (c : ℕ → A)
       → Solves r rows columns c (solution r rows columns c)
       × ((x : ℕ → A) → Solves r rows columns c x → (j : ℕ) → j < r → x j ≡ solution r rows columns c j)

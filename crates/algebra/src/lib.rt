@@ -6,7 +6,7 @@ ghost use Rattle.std.specs.Option.{option_map};
 ghost use Rattle.algebra.specs.Algebra.{Field as Algebra, minus, numbered, power};
 ghost use Rattle.algebra.specs.Below.{Below};
 ghost use Rattle.algebra.specs.Code.{code, coded, decoded};
-ghost use Rattle.algebra.specs.Theorems.{Signatures-find-changes, Exactly-one-solution};
+ghost use Rattle.algebra.specs.Theorems.{SignaturesFindChanges, ExactlyOneSolution};
 
 // A field's symbols, by the elements that they mean: a symbol is what a program holds, and an element is one of the
 // numbers below size. The laws stand in the algebra, so each implementation owes them.
@@ -145,10 +145,10 @@ pub trait CodedField: Field {
 
 // Signatures over the first powers of alpha find as many changed symbols as there are signatures, over every field.
 pub fn signatures_find_changes()
-    ensures { (q : ℕ) (F : Algebra (Below q)) → Signatures-find-changes F }
+    ensures { (q : ℕ) (F : Algebra (Below q)) → SignaturesFindChanges F }
 {}
 
 // Lost data rows follow from as many parity rows, in exactly one way, over every field.
 pub fn exactly_one_solution()
-    ensures { (q : ℕ) (F : Algebra (Below q)) → Exactly-one-solution F }
+    ensures { (q : ℕ) (F : Algebra (Below q)) → ExactlyOneSolution F }
 {}

@@ -2,8 +2,8 @@
 #![tactic(auto)]
 
 ghost use Rattle.std.specs.Prelude.{◌≡◌};
-ghost use Rattle.byte_field.specs.Product.{◌·◌, by-x, inverse};
-ghost use Rattle.byte_field.specs.Meaning.{byte-algebra, byte-meaning, byte-symbol};
+ghost use Rattle.byte_field.specs.Product.{◌·◌, by_x, inverse};
+ghost use Rattle.byte_field.specs.Meaning.{byte_algebra, byte_meaning, byte_symbol};
 
 use algebra::{CodedField, Field};
 
@@ -17,7 +17,7 @@ pub struct Byte(pub u8);
 
 // x times a polynomial, modulo x^8 + x^4 + x^3 + x^2 + 1.
 fn doubled(a: u8) -> u8
-    ensures { result ≡ by-x a }
+    ensures { result ≡ by_x a }
 {
     if a < 128 { a * 2 } else { (a % 128 * 2) ^ 0x1D }
 }
@@ -52,11 +52,11 @@ fn inverted(a: u8) -> u8
 impl Field for Byte {
     ghost size = { 256 };
 
-    ghost algebra = { byte-algebra };
+    ghost algebra = { byte_algebra };
 
-    ghost meaning = { byte-meaning };
+    ghost meaning = { byte_meaning };
 
-    ghost symbol = { byte-symbol };
+    ghost symbol = { byte_symbol };
 
     fn zero() -> Byte {
         Byte(0)

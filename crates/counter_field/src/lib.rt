@@ -2,8 +2,8 @@
 #![tactic(auto)]
 
 ghost use Rattle.std.specs.Prelude.{◌≡◌, ◌%◌, ◌<◌};
-ghost use Rattle.algebra.specs.Modular.{modular-inverse};
-ghost use Rattle.counter_field.specs.Meaning.{counter-algebra, counter-meaning, counter-number, counter-symbol};
+ghost use Rattle.algebra.specs.Modular.{modular_inverse};
+ghost use Rattle.counter_field.specs.Meaning.{counter_algebra, counter_meaning, counter_number, counter_symbol};
 
 use algebra::{CodedField, Field};
 
@@ -20,7 +20,7 @@ pub enum Counter {
 
 impl Counter {
     fn value(self) -> u64
-        ensures value { result ≡ counter-number self }
+        ensures value { result ≡ counter_number self }
         ensures bound { result < 65537 }
     {
         match self {
@@ -30,8 +30,8 @@ impl Counter {
     }
 
     fn reduced(value: u64) -> Counter
-        ensures value { result ≡ counter-symbol (value % 65537) }
-        ensures number { counter-number result ≡ value % 65537 }
+        ensures value { result ≡ counter_symbol (value % 65537) }
+        ensures number { counter_number result ≡ value % 65537 }
     {
         let rest = value % 65_537;
         if rest == 65_536 {
@@ -44,7 +44,7 @@ impl Counter {
 
 // The inverse, by division with remainder: factor times the value is always rest, modulo 65,537.
 fn inverted(value: u64) -> u64
-    ensures value { result ≡ modular-inverse 65537 (value % 65537) }
+    ensures value { result ≡ modular_inverse 65537 (value % 65537) }
     ensures bound { result < 65537 }
 {
     let mut factor = 1;
@@ -59,11 +59,11 @@ fn inverted(value: u64) -> u64
 impl Field for Counter {
     ghost size = { 65537 };
 
-    ghost algebra = { counter-algebra };
+    ghost algebra = { counter_algebra };
 
-    ghost meaning = { counter-meaning };
+    ghost meaning = { counter_meaning };
 
-    ghost symbol = { counter-symbol };
+    ghost symbol = { counter_symbol };
 
     fn zero() -> Counter {
         Counter::Low(0)

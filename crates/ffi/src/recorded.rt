@@ -1,6 +1,6 @@
 // A shelf over another one that writes down each put, to see the order in which a write puts.
 ghost use Rattle.std.specs.Prelude.{◌≡◌};
-ghost use Rattle.shelves.specs.Contents.{put-answer, after-put};
+ghost use Rattle.shelves.specs.Contents.{put_answer, after_put};
 
 use algebra::Field;
 use shelves::{Got, Placed, Shelf};

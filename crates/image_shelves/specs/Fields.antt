@@ -2,19 +2,19 @@
 use Rattle.std.specs.Prelude.{◌≡◌, ℕ, List}
 use Rattle.std.specs.Borrow.{MutBor}
 use Rattle.byte_field.specs.declared.Byte.{Byte}
-use Rattle.byte_field.specs.Meaning.{byte-symbol}
+use Rattle.byte_field.specs.Meaning.{byte_symbol}
 use Rattle.counter_field.specs.declared.Counter.{Counter}
-use Rattle.counter_field.specs.Meaning.{counter-symbol, counter-number}
+use Rattle.counter_field.specs.Meaning.{counter_symbol, counter_number}
 use Rattle.shelves.specs.Contents.{Contents}
-use Rattle.image_shelves.specs.Layout.{image-contents, image-spot, put-at}
+use Rattle.image_shelves.specs.Layout.{image_contents, image_spot, put_at}
 
 -- field number 1, codes of one byte, 256 elements
-abbrev pub byte-image : List ℕ → Contents Byte
-byte-image = image-contents 1 1 256 byte-symbol
+abbrev pub byte_image : List ℕ → Contents Byte
+byte_image = image_contents 1 1 256 byte_symbol
 
 -- field number 2, codes of three bytes, 65,537 elements
-abbrev pub counter-image : List ℕ → Contents Counter
-counter-image = image-contents 2 3 65537 counter-symbol
+abbrev pub counter_image : List ℕ → Contents Counter
+counter_image = image_contents 2 3 65537 counter_symbol
 
 -- A new shelf has the bytes that it was given, with all that stood there.
 pub record Lent (given held : MutBor (List ℕ)) : Type 0 where
@@ -24,11 +24,11 @@ pub record Lent (given held : MutBor (List ℕ)) : Type 0 where
 -- What lent bytes hold after a put of the symbol of a number: its mark and its code, and all else as it stood, the head included.
 -- They are still the same bytes of memory.
 pub record Stored (kind width : ℕ) (before : MutBor (List ℕ)) (row place v : ℕ) (after : MutBor (List ℕ)) : Type 0 where
-  pub bytes : after.now ≡ put-at width (image-spot kind width before.now row place) v before.now
+  pub bytes : after.now ≡ put_at width (image_spot kind width before.now row place) v before.now
   pub same : after.ghost_name ≡ before.ghost_name
 
 abbrev pub ByteStored : MutBor (List ℕ) → ℕ → ℕ → Byte → MutBor (List ℕ) → Type 0
 ByteStored before row place x = Stored 1 1 before row place x.0
 
 abbrev pub CounterStored : MutBor (List ℕ) → ℕ → ℕ → Counter → MutBor (List ℕ) → Type 0
-CounterStored before row place x = Stored 2 3 before row place (counter-number x)
+CounterStored before row place x = Stored 2 3 before row place (counter_number x)

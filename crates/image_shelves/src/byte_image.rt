@@ -1,7 +1,7 @@
 // A shelf over an image of the byte field.
 ghost use Rattle.std.specs.Prelude.{◌≡◌};
-ghost use Rattle.shelves.specs.Contents.{put-answer, after-put};
-ghost use Rattle.image_shelves.specs.Fields.{byte-image, Lent, ByteStored};
+ghost use Rattle.shelves.specs.Contents.{put_answer, after_put};
+ghost use Rattle.image_shelves.specs.Fields.{byte_image, Lent, ByteStored};
 
 use crate::{image_get, image_places, image_put, image_rows};
 use byte_field::Byte;
@@ -15,7 +15,7 @@ pub struct ByteImage<'a> {
 
 impl<'a> ByteImage<'a> {
     pub fn over(bytes: &'a mut [u8]) -> ByteImage<'a>
-        ensures contents { byte-image result.bytes.now ≡ byte-image bytes.old }
+        ensures contents { byte_image result.bytes.now ≡ byte_image bytes.old }
         ensures lent { Lent bytes.entry result.bytes }
     {
         ByteImage { bytes }
@@ -33,7 +33,7 @@ impl<'a> ByteImage<'a> {
 impl<'a> Shelf for ByteImage<'a> {
     type Symbol = Byte;
 
-    ghost contents = { λ s. byte-image s.bytes.now };
+    ghost contents = { λ s. byte_image s.bytes.now };
 
     fn rows(&self) -> usize {
         image_rows::<Byte>(self.bytes)
@@ -48,8 +48,8 @@ impl<'a> Shelf for ByteImage<'a> {
     }
 
     fn put(&mut self, row: usize, place: usize, symbol: Byte) -> Placed
-        ensures answer { result ≡ put-answer (byte-image self.old.bytes.now) row place }
-        ensures after { byte-image self.new.bytes.now ≡ after-put (byte-image self.old.bytes.now) row place symbol }
+        ensures answer { result ≡ put_answer (byte_image self.old.bytes.now) row place }
+        ensures after { byte_image self.new.bytes.now ≡ after_put (byte_image self.old.bytes.now) row place symbol }
         ensures stored { ByteStored self.old.bytes row place symbol self.new.bytes }
     {
         image_put::<Byte>(self.bytes, row, place, symbol)

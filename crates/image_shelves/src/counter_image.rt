@@ -1,7 +1,7 @@
 // A shelf over an image of the counter field.
 ghost use Rattle.std.specs.Prelude.{◌≡◌};
-ghost use Rattle.shelves.specs.Contents.{put-answer, after-put};
-ghost use Rattle.image_shelves.specs.Fields.{counter-image, Lent, CounterStored};
+ghost use Rattle.shelves.specs.Contents.{put_answer, after_put};
+ghost use Rattle.image_shelves.specs.Fields.{counter_image, Lent, CounterStored};
 
 use crate::{image_get, image_places, image_put, image_rows};
 use counter_field::Counter;
@@ -15,7 +15,7 @@ pub struct CounterImage<'a> {
 
 impl<'a> CounterImage<'a> {
     pub fn over(bytes: &'a mut [u8]) -> CounterImage<'a>
-        ensures contents { counter-image result.bytes.now ≡ counter-image bytes.old }
+        ensures contents { counter_image result.bytes.now ≡ counter_image bytes.old }
         ensures lent { Lent bytes.entry result.bytes }
     {
         CounterImage { bytes }
@@ -33,7 +33,7 @@ impl<'a> CounterImage<'a> {
 impl<'a> Shelf for CounterImage<'a> {
     type Symbol = Counter;
 
-    ghost contents = { λ s. counter-image s.bytes.now };
+    ghost contents = { λ s. counter_image s.bytes.now };
 
     fn rows(&self) -> usize {
         image_rows::<Counter>(self.bytes)
@@ -48,8 +48,8 @@ impl<'a> Shelf for CounterImage<'a> {
     }
 
     fn put(&mut self, row: usize, place: usize, symbol: Counter) -> Placed
-        ensures answer { result ≡ put-answer (counter-image self.old.bytes.now) row place }
-        ensures after { counter-image self.new.bytes.now ≡ after-put (counter-image self.old.bytes.now) row place symbol }
+        ensures answer { result ≡ put_answer (counter_image self.old.bytes.now) row place }
+        ensures after { counter_image self.new.bytes.now ≡ after_put (counter_image self.old.bytes.now) row place symbol }
         ensures stored { CounterStored self.old.bytes row place symbol self.new.bytes }
     {
         image_put::<Counter>(self.bytes, row, place, symbol)

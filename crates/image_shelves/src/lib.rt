@@ -2,8 +2,8 @@
 #![tactic(auto)]
 
 ghost use Rattle.std.specs.Prelude.{◌≡◌};
-ghost use Rattle.image_shelves.specs.Layout.{own-head, image-spot, image-contents, put-at, SpotWithin};
-ghost use Rattle.shelves.specs.Contents.{get-answer, put-answer, after-put};
+ghost use Rattle.image_shelves.specs.Layout.{head_if_own, image_spot, image_contents, put_at, SpotWithin};
+ghost use Rattle.shelves.specs.Contents.{get_answer, put_answer, after_put};
 
 use algebra::{CodedField, Field};
 use images::Head;
@@ -25,7 +25,7 @@ pub struct Spot {
 
 // The head, where the bytes are an image of the field.
 fn own_head<F: CodedField>(bytes: &[u8]) -> Option<Head>
-    ensures { result ≡ own-head F.CodedField.kind F.CodedField.width bytes.now }
+    ensures { result ≡ head_if_own F.CodedField.kind F.CodedField.width bytes.now }
 {
     match images::check(bytes) {
         Ok(head) => {
@@ -42,7 +42,7 @@ fn own_head<F: CodedField>(bytes: &[u8]) -> Option<Head>
 }
 
 pub fn image_rows<F: CodedField>(bytes: &[u8]) -> usize
-    ensures { result ≡ (image-contents F.CodedField.kind F.CodedField.width F.Field.algebra.size F.Field.symbol bytes.now).rows }
+    ensures { result ≡ (image_contents F.CodedField.kind F.CodedField.width F.Field.algebra.size F.Field.symbol bytes.now).rows }
 {
     match own_head::<F>(bytes) {
         Some(head) => head.rows(),
@@ -51,7 +51,7 @@ pub fn image_rows<F: CodedField>(bytes: &[u8]) -> usize
 }
 
 pub fn image_places<F: CodedField>(bytes: &[u8]) -> usize
-    ensures { result ≡ (image-contents F.CodedField.kind F.CodedField.width F.Field.algebra.size F.Field.symbol bytes.now).places }
+    ensures { result ≡ (image_contents F.CodedField.kind F.CodedField.width F.Field.algebra.size F.Field.symbol bytes.now).places }
 {
     match own_head::<F>(bytes) {
         Some(head) => head.places(),
@@ -60,7 +60,7 @@ pub fn image_places<F: CodedField>(bytes: &[u8]) -> usize
 }
 
 fn find_spot<F: CodedField>(bytes: &[u8], row: usize, place: usize) -> Option<Spot>
-    ensures is { result ≡ image-spot F.CodedField.kind F.CodedField.width bytes.now row place }
+    ensures is { result ≡ image_spot F.CodedField.kind F.CodedField.width bytes.now row place }
     ensures within { SpotWithin F.CodedField.width bytes.now result }
 {
     let head = own_head::<F>(bytes)?;
@@ -77,7 +77,7 @@ fn find_spot<F: CodedField>(bytes: &[u8], row: usize, place: usize) -> Option<Sp
 }
 
 pub fn image_get<F: CodedField>(bytes: &[u8], row: usize, place: usize) -> Got<F>
-    ensures { result ≡ get-answer (image-contents F.CodedField.kind F.CodedField.width F.Field.algebra.size F.Field.symbol bytes.now) row place }
+    ensures { result ≡ get_answer (image_contents F.CodedField.kind F.CodedField.width F.Field.algebra.size F.Field.symbol bytes.now) row place }
 {
     match find_spot::<F>(bytes, row, place) {
         None => Got::Outside,
@@ -95,9 +95,9 @@ pub fn image_get<F: CodedField>(bytes: &[u8], row: usize, place: usize) -> Got<F
 }
 
 pub fn image_put<F: CodedField>(bytes: &mut [u8], row: usize, place: usize, symbol: F) -> Placed
-    ensures answer { result ≡ put-answer (image-contents F.CodedField.kind F.CodedField.width F.Field.algebra.size F.Field.symbol bytes.old) row place }
-    ensures after { image-contents F.CodedField.kind F.CodedField.width F.Field.algebra.size F.Field.symbol bytes.new ≡ after-put (image-contents F.CodedField.kind F.CodedField.width F.Field.algebra.size F.Field.symbol bytes.old) row place (F.Field.symbol (F.Field.algebra.number (F.Field.meaning symbol))) }
-    ensures stored { bytes.new ≡ put-at F.CodedField.width (image-spot F.CodedField.kind F.CodedField.width bytes.old row place) (F.Field.algebra.number (F.Field.meaning symbol)) bytes.old }
+    ensures answer { result ≡ put_answer (image_contents F.CodedField.kind F.CodedField.width F.Field.algebra.size F.Field.symbol bytes.old) row place }
+    ensures after { image_contents F.CodedField.kind F.CodedField.width F.Field.algebra.size F.Field.symbol bytes.new ≡ after_put (image_contents F.CodedField.kind F.CodedField.width F.Field.algebra.size F.Field.symbol bytes.old) row place (F.Field.symbol (F.Field.algebra.number (F.Field.meaning symbol))) }
+    ensures stored { bytes.new ≡ put_at F.CodedField.width (image_spot F.CodedField.kind F.CodedField.width bytes.old row place) (F.Field.algebra.number (F.Field.meaning symbol)) bytes.old }
 {
     match find_spot::<F>(bytes, row, place) {
         None => Placed::Outside,

@@ -7,22 +7,22 @@ use Rattle.images.specs.declared.FieldKind.TheVariants.{Byte, Counter}
 use Rattle.images.specs.declared.Head.{Head}
 use Rattle.images.specs.declared.ImageRefusal.{ImageRefusal}
 use Rattle.images.specs.declared.ImageRefusal.TheVariants.{TooShort, WrongLength}
-use Rattle.images.specs.Image.{field-number, code-width, field-numbered, row_count, place-count, image-length, head_of, long-enough, of_field, checked}
-use Rattle.images.specs.Layout.{Image, Exactly-the-images}
+use Rattle.images.specs.Image.{field_number, code_width, field_numbered, row_count, place_count, image_length, head_of, long_enough, of_field, checked}
+use Rattle.images.specs.Layout.{Image, ExactlyTheImages}
 
-numbered : (f : FieldKind) → field-numbered (field-number f) ≡ Some f
+numbered : (f : FieldKind) → field_numbered (field_number f) ≡ Some f
 numbered Byte = refl
 numbered Counter = refl
 
-known : (v : ℕ) (f : FieldKind) → field-numbered v ≡ Some f → field-number f ≡ v
+known : (v : ℕ) (f : FieldKind) → field_numbered v ≡ Some f → field_number f ≡ v
 known v f e = by_cases (eqb v 1)
-    (λ t. let k : Some Byte ≡ Some f = rw t at e in let b : f ≡ Byte = cc in ap field-number b ∙ sym (eqb-true v 1 t))
+    (λ t. let k : Some Byte ≡ Some f = rw t at e in let b : f ≡ Byte = cc in ap field_number b ∙ sym (eqb-true v 1 t))
     (λ n. by_cases (eqb v 2)
-    (λ t. let k : Some Counter ≡ Some f = rw (n, t) at e in let b : f ≡ Counter = cc in ap field-number b ∙ sym (eqb-true v 2 t))
+    (λ t. let k : Some Counter ≡ Some f = rw (n, t) at e in let b : f ≡ Counter = cc in ap field_number b ∙ sym (eqb-true v 2 t))
     (λ m. let k : ◌≡◌ {A = Option FieldKind} None (Some f) = rw (n, m) at e in let z : ◌≡◌ {A = ℕ} 0 1 = cc in absurd (omega arith)))
 
 -- at six bytes and more, the field decides
-enough : (bytes : List ℕ) → 6 ≤ length bytes → checked bytes ≡ of_field bytes (field-numbered (get_or bytes 0 0))
+enough : (bytes : List ℕ) → 6 ≤ length bytes → checked bytes ≡ of_field bytes (field_numbered (get_or bytes 0 0))
 enough bytes l = rw (le-ltb (length bytes) 6 l)
 
 -- what follows the head splits into the marks and the codes
@@ -33,46 +33,46 @@ parts s w rest e =
     (simp length-take (omega arith), simp length-drop (omega arith))
 
 -- with the head in hand, the length decides
-module _ (bytes : List ℕ) (f : FieldKind) (h : Head) (long : 6 ≤ length bytes) (kind : field-numbered (get_or bytes 0 0) ≡ Some f) (is : h ≡ head_of f bytes) where
-  whole : checked bytes ≡ long-enough bytes h
-  whole = enough bytes long ∙ ap (of_field bytes) kind ∙ ap (long-enough bytes) (sym is)
+module _ (bytes : List ℕ) (f : FieldKind) (h : Head) (long : 6 ≤ length bytes) (kind : field_numbered (get_or bytes 0 0) ≡ Some f) (is : h ≡ head_of f bytes) where
+  whole : checked bytes ≡ long_enough bytes h
+  whole = enough bytes long ∙ ap (of_field bytes) kind ∙ ap (long_enough bytes) (sym is)
 
-  pub of_length : length bytes ≡ image-length h → checked bytes ≡ Ok h
-  of_length e = whole ∙ rw (eq-eqb (length bytes) (image-length h) e)
+  pub of_length : length bytes ≡ image_length h → checked bytes ≡ Ok h
+  of_length e = whole ∙ rw (eq-eqb (length bytes) (image_length h) e)
 
-  pub of-other-length : (length bytes ≡ image-length h → ⊥) → checked bytes ≡ Err WrongLength
-  of-other-length e = whole ∙ rw (ne_eqb (length bytes) (image-length h) e)
+  pub of_other_length : (length bytes ≡ image_length h → ⊥) → checked bytes ≡ Err WrongLength
+  of_other_length e = whole ∙ rw (ne_eqb (length bytes) (image_length h) e)
 
 accepted : (h : Head) (b : List ℕ) → Image h b → checked b ≡ Ok h
 accepted h b i =
-    let bytes : List ℕ = field-number h.field ∷ h.data_rows ∷ h.parity_rows ∷ h.card_length ∷ i.high ∷ i.low ∷ (i.marks ++ i.codes) in
-    let s : ℕ = row_count h * place-count h in
+    let bytes : List ℕ = field_number h.field ∷ h.data_rows ∷ h.parity_rows ∷ h.card_length ∷ i.high ∷ i.low ∷ (i.marks ++ i.codes) in
+    let s : ℕ = row_count h * place_count h in
     let l = length-append i.marks i.codes in
-    let d = mul-add s 1 (code-width h.field) in
+    let d = mul-add s 1 (code_width h.field) in
     let o = mul-one s in
-    ap checked i.laid_out ∙ of_length bytes h.field h (omega arith) (numbered h.field) (ap (λ (n : ℕ). record { field = h.field; data_rows = h.data_rows; parity_rows = h.parity_rows; card_length = h.card_length; block_length = n }) i.block-length) (omega (arith, i.one-mark-each, i.one-code-each))
+    ap checked i.laid_out ∙ of_length bytes h.field h (omega arith) (numbered h.field) (ap (λ (n : ℕ). record { field = h.field; data_rows = h.data_rows; parity_rows = h.parity_rows; card_length = h.card_length; block_length = n }) i.block_length) (omega (arith, i.one_mark_each, i.one_code_each))
 
-split : (b₀ b₁ b₂ b₃ b₄ b₅ : ℕ) (rest : List ℕ) (h : Head) (o : Option FieldKind) → field-numbered b₀ ≡ o → of_field (b₀ ∷ b₁ ∷ b₂ ∷ b₃ ∷ b₄ ∷ b₅ ∷ rest) o ≡ Ok h → Image h (b₀ ∷ b₁ ∷ b₂ ∷ b₃ ∷ b₄ ∷ b₅ ∷ rest)
+split : (b₀ b₁ b₂ b₃ b₄ b₅ : ℕ) (rest : List ℕ) (h : Head) (o : Option FieldKind) → field_numbered b₀ ≡ o → of_field (b₀ ∷ b₁ ∷ b₂ ∷ b₃ ∷ b₄ ∷ b₅ ∷ rest) o ≡ Ok h → Image h (b₀ ∷ b₁ ∷ b₂ ∷ b₃ ∷ b₄ ∷ b₅ ∷ rest)
 split b₀ b₁ b₂ b₃ b₄ b₅ rest h None k e = let z : ◌≡◌ {A = ℕ} 0 1 = cc in absurd (omega arith)
 split b₀ b₁ b₂ b₃ b₄ b₅ rest h (Some f) k e =
     let bytes : List ℕ = b₀ ∷ b₁ ∷ b₂ ∷ b₃ ∷ b₄ ∷ b₅ ∷ rest in
     let r : Head = head_of f bytes in
-    let s : ℕ = row_count r * place-count r in
-    by_cases (eqb (length bytes) (image-length r))
+    let s : ℕ = row_count r * place_count r in
+    by_cases (eqb (length bytes) (image_length r))
     (λ t.
     let a : ◌≡◌ {A = Result Head ImageRefusal} (Ok r) (Ok h) = rw t at e in
     let is : r ≡ h = cc in
-    let len : length rest ≡ s * (1 + code-width f) = omega (arith, eqb-true (length bytes) (image-length r) t) in
-    let p = parts s (code-width f) rest len in
+    let len : length rest ≡ s * (1 + code_width f) = omega (arith, eqb-true (length bytes) (image_length r) t) in
+    let p = parts s (code_width f) rest len in
     subst (λ (v : Head). Image v bytes) is (record {
       high = b₄;
       low = b₅;
       marks = take s rest;
       codes = drop s rest;
-      block-length = refl;
+      block_length = refl;
       laid_out = ap₂ (λ (v : ℕ) (l : List ℕ). v ∷ b₁ ∷ b₂ ∷ b₃ ∷ b₄ ∷ b₅ ∷ l) (sym (known b₀ f k)) (sym (take-append-drop s rest));
-      one-mark-each = p.0;
-      one-code-each = p.1;
+      one_mark_each = p.0;
+      one_code_each = p.1;
     }))
     (λ t.
     let a : ◌≡◌ {A = Result Head ImageRefusal} (Err WrongLength) (Ok h) = rw t at e in
@@ -87,25 +87,25 @@ image (b₀ ∷ b₁ ∷ b₂ ∷ []) h e = let z : ◌≡◌ {A = ℕ} 0 1 = cc
 image (b₀ ∷ b₁ ∷ b₂ ∷ b₃ ∷ []) h e = let z : ◌≡◌ {A = ℕ} 0 1 = cc in absurd (omega arith)
 image (b₀ ∷ b₁ ∷ b₂ ∷ b₃ ∷ b₄ ∷ []) h e = let z : ◌≡◌ {A = ℕ} 0 1 = cc in absurd (omega arith)
 image (b₀ ∷ b₁ ∷ b₂ ∷ b₃ ∷ b₄ ∷ b₅ ∷ rest) h e =
-    split b₀ b₁ b₂ b₃ b₄ b₅ rest h (field-numbered b₀) refl (sym (enough (b₀ ∷ b₁ ∷ b₂ ∷ b₃ ∷ b₄ ∷ b₅ ∷ rest) (omega arith)) ∙ e)
+    split b₀ b₁ b₂ b₃ b₄ b₅ rest h (field_numbered b₀) refl (sym (enough (b₀ ∷ b₁ ∷ b₂ ∷ b₃ ∷ b₄ ∷ b₅ ∷ rest) (omega arith)) ∙ e)
 
-pub exactly : (bytes : List ℕ) → Exactly-the-images bytes (checked bytes)
+pub exactly : (bytes : List ℕ) → ExactlyTheImages bytes (checked bytes)
 exactly bytes h = (image bytes h, accepted h bytes)
 
 -- an accepted image has the length of its head
-pub accepted-length : (bytes : List ℕ) (h : Head) → checked bytes ≡ Ok h → length bytes ≡ image-length h
-accepted-length bytes h e =
+pub accepted_length : (bytes : List ℕ) (h : Head) → checked bytes ≡ Ok h → length bytes ≡ image_length h
+accepted_length bytes h e =
     let i = image bytes h e in
-    let s : ℕ = row_count h * place-count h in
+    let s : ℕ = row_count h * place_count h in
     let l = length-append i.marks i.codes in
-    let d = mul-add s 1 (code-width h.field) in
+    let d = mul-add s 1 (code_width h.field) in
     let o = mul-one s in
-    ap length i.laid_out ∙ omega (arith, i.one-mark-each, i.one-code-each)
+    ap length i.laid_out ∙ omega (arith, i.one_mark_each, i.one_code_each)
 
 -- the check looks at the length and the first six bytes
 pub same_head : (xs ys : List ℕ) → length xs ≡ length ys → ((j : ℕ) → j < 6 → get_or xs j 0 ≡ get_or ys j 0) → checked xs ≡ checked ys
 same_head xs ys l e =
-    rw (l, e 0 (lit< tt)) (ap (cond (ltb (length ys) 6) (Err TooShort)) (of_fields (field-numbered (get_or ys 0 0))))
+    rw (l, e 0 (lit< tt)) (ap (cond (ltb (length ys) 6) (Err TooShort)) (of_fields (field_numbered (get_or ys 0 0))))
   where
     of_fields : (o : Option FieldKind) → of_field xs o ≡ of_field ys o
     of_fields None = refl

@@ -2,8 +2,8 @@
 #![tactic(auto)]
 
 ghost use Rattle.std.specs.Prelude.{◌≡◌, ◌≤◌, length};
-ghost use Rattle.images.specs.Image.{field-number, code-width, field-numbered, row_count, place-count, image-length, refusal-number, head_of, checked};
-ghost use Rattle.images.specs.Layout.{Exactly-the-images};
+ghost use Rattle.images.specs.Image.{field_number, code_width, field_numbered, row_count, place_count, image_length, refusal_number, head_of, checked};
+ghost use Rattle.images.specs.Layout.{ExactlyTheImages};
 
 // The field that an image's symbols belong to.
 #[derive(Clone, Copy, PartialEq, Eq, Debug)]
@@ -15,7 +15,7 @@ pub enum FieldKind {
 impl FieldKind {
     // The field of this number, where there is one.
     pub fn numbered(number: u8) -> Option<FieldKind>
-        ensures { result ≡ field-numbered number }
+        ensures { result ≡ field_numbered number }
     {
         match number {
             1 => Some(FieldKind::Byte),
@@ -25,7 +25,7 @@ impl FieldKind {
     }
 
     pub fn number(self) -> u8
-        ensures { result ≡ field-number self }
+        ensures { result ≡ field_number self }
     {
         match self {
             FieldKind::Byte => 1,
@@ -35,7 +35,7 @@ impl FieldKind {
 
     // How many bytes code one symbol.
     pub fn code_width(self) -> usize
-        ensures value { result ≡ code-width self }
+        ensures value { result ≡ code_width self }
         ensures bound { result ≤ 3 }
     {
         match self {
@@ -80,7 +80,7 @@ impl Head {
 
     // The places of one row, block and card.
     pub fn places(&self) -> usize
-        ensures value { result ≡ place-count self.now }
+        ensures value { result ≡ place_count self.now }
         ensures bound { result ≤ 65790 }
     {
         self.block_length as usize + self.card_length as usize
@@ -88,7 +88,7 @@ impl Head {
 
     // How many bytes an image with this head has.
     pub fn image_length(&self) -> usize
-        ensures { result ≡ image-length self.now }
+        ensures { result ≡ image_length self.now }
     {
         6 + self.rows() * self.places() * (1 + self.field.code_width())
     }
@@ -104,7 +104,7 @@ pub enum ImageRefusal {
 
 impl ImageRefusal {
     pub fn number(self) -> u8
-        ensures { result ≡ refusal-number self }
+        ensures { result ≡ refusal_number self }
     {
         match self {
             ImageRefusal::TooShort => 21,
@@ -117,7 +117,7 @@ impl ImageRefusal {
 // The head of an image, or why the bytes are none.
 pub fn check(bytes: &[u8]) -> Result<Head, ImageRefusal>
     ensures value { result ≡ checked bytes.now }
-    ensures exact { Exactly-the-images bytes.now result }
+    ensures exact { ExactlyTheImages bytes.now result }
 {
     if bytes.len() < 6 {
         return Err(ImageRefusal::TooShort);

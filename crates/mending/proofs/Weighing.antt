@@ -5,33 +5,33 @@ use Rattle.algebra.specs.Algebra.{Field}
 use Rattle.algebra.specs.Sum.{sum_to}
 use Rattle.algebra.specs.Theorems.{coefficient, Square, Solves, solution}
 use Rattle.algebra.proofs.Cases.{by_cases}
-use Rattle.algebra.proofs.Matrix.{exactly-one-solution}
+use Rattle.algebra.proofs.Matrix.{exactly_one_solution}
 use Rattle.algebra.proofs.Ring.{add-zero, zero-add, add-mul, mul-add, mul-zero, zero-mul, one-mul, mul_comm, mul_assoc, add-neg}
-use Rattle.algebra.proofs.Sums.{sum_below, sum-zero, sum-add, sum-mul, sum-exchange, sum_one}
+use Rattle.algebra.proofs.Sums.{sum_below, sum-zero, sum-add, sum_mul, sum_exchange, sum_one}
 use Rattle.rules.specs.Codes.{combination}
 use Rattle.rules.specs.Search.{counted}
-use Rattle.rules.proofs.Counted.{select, selected, select-rank, counted-before, sum_selected}
+use Rattle.rules.proofs.Counted.{select, selected, select_rank, counted_before, sum_selected}
 use Rattle.mending.specs.declared.Plan.{Plan}
-use Rattle.mending.specs.Plans.{Picked, lost, used-by, share, weight-in, weight-of, Planned}
-use Rattle.mending.proofs.Planning.{square-of}
+use Rattle.mending.specs.Plans.{Picked, lost, used_by, share, weight_in, weight_of, Planned}
+use Rattle.mending.proofs.Planning.{square_of}
 
 -- the one of a rank, as it is picked
-selected-picked : (n : ℕ) (test : ℕ → Bool) (r : ℕ) → r < counted n test → Picked n test r (select n test r)
-selected-picked n test r h = let s = selected n test r h in record { below = s.below; passes = s.passes; rank = s.rank }
+selected_picked : (n : ℕ) (test : ℕ → Bool) (r : ℕ) → r < counted n test → Picked n test r (select n test r)
+selected_picked n test r h = let s = selected n test r h in record { below = s.below; passes = s.passes; rank = s.rank }
 
 module _ {A : Type 0} (F : Field A) where
   -- terms that are zero from k on do not count
-  sum-front : (k p : ℕ) (f : ℕ → A) → ((i : ℕ) → i < p → f (k + i) ≡ F.zer) → sum_to F (k + p) f ≡ sum_to F k f
-  sum-front k zero f e = let z : k + 0 ≡ k = omega arith in ap (λ n. sum_to F n f) z
-  sum-front k (suc p) f e =
+  sum_front : (k p : ℕ) (f : ℕ → A) → ((i : ℕ) → i < p → f (k + i) ≡ F.zer) → sum_to F (k + p) f ≡ sum_to F k f
+  sum_front k zero f e = let z : k + 0 ≡ k = omega arith in ap (λ n. sum_to F n f) z
+  sum_front k (suc p) f e =
       let z : k + suc p ≡ suc (k + p) = omega arith in
-      ap (λ n. sum_to F n f) z ∙ ap₂ F.add (sum-front k p f (λ i h. e i (omega arith))) (e p (omega arith)) ∙ add-zero F _
+      ap (λ n. sum_to F n f) z ∙ ap₂ F.add (sum_front k p f (λ i h. e i (omega arith))) (e p (omega arith)) ∙ add-zero F _
 
-  sum-times : (n : ℕ) (f : ℕ → A) (x : A) → F.mul (sum_to F n f) x ≡ sum_to F n (λ i. F.mul (f i) x)
-  sum-times n f x = mul_comm F _ _ ∙ sym (sum-mul F n x f) ∙ sum_below F n _ _ (λ i h. mul_comm F _ _)
+  sum_times : (n : ℕ) (f : ℕ → A) (x : A) → F.mul (sum_to F n f) x ≡ sum_to F n (λ i. F.mul (f i) x)
+  sum_times n f x = mul_comm F _ _ ∙ sym (sum_mul F n x f) ∙ sum_below F n _ _ (λ i h. mul_comm F _ _)
 
-  sum-none : (n : ℕ) (f : ℕ → A) → ((i : ℕ) → i < n → f i ≡ F.zer) → sum_to F n f ≡ F.zer
-  sum-none n f e = sum_below F n f (λ i. F.zer) e ∙ sum-zero F n
+  sum_none : (n : ℕ) (f : ℕ → A) → ((i : ℕ) → i < n → f i ≡ F.zer) → sum_to F n f ≡ F.zer
+  sum_none n f e = sum_below F n f (λ i. F.zer) e ∙ sum-zero F n
 
 module _ {A : Type 0} (F : Field A) (k p : ℕ) (room : k + 4 ≤ F.size) (four : p ≤ 4) (sound : ℕ → Bool)
     (enough : counted k (lost F k sound) ≤ counted p (λ i. sound (k + i))) (plan : Plan) (planned : Planned F k p sound plan) where
@@ -45,25 +45,25 @@ module _ {A : Type 0} (F : Field A) (k p : ℕ) (room : k + 4 ≤ F.size) (four 
   at b = get_or plan.lost b 0
 
   abbrev W : ℕ → ℕ → A
-  W row b = weight-in F plan.weights row b
+  W row b = weight_in F plan.weights row b
 
-  at-select : (b : ℕ) → b < plan.count → at b ≡ select k bad b
-  at-select b h =
+  at_select : (b : ℕ) → b < plan.count → at b ≡ select k bad b
+  at_select b h =
       let pick = planned.picks b h in
-      sym (select-rank k bad (at b) pick.below pick.passes) ∙ ap (select k bad) pick.rank
+      sym (select_rank k bad (at b) pick.below pick.passes) ∙ ap (select k bad) pick.rank
 
   module _ (row : ℕ) (h : row < k + p) (off : sound row ≡ false) where
-    abbrev used-at : ℕ → ℕ
-    used-at a = select p good a
+    abbrev used_at : ℕ → ℕ
+    used_at a = select p good a
 
-    used-picked : (a : ℕ) → a < counted p good → Picked p good a (used-at a)
-    used-picked a l = selected-picked p good a l
+    used_picked : (a : ℕ) → a < counted p good → Picked p good a (used_at a)
+    used_picked a l = selected_picked p good a l
 
-    uses : (a : ℕ) → a < counted k bad → used-by F k sound (used-at a) ≡ true
-    uses a l = let s = used-picked a (omega arith) in and_from _ _ s.passes (lt-ltb _ _ (omega (arith, s.rank)))
+    uses : (a : ℕ) → a < counted k bad → used_by F k sound (used_at a) ≡ true
+    uses a l = let s = used_picked a (omega arith) in and_from _ _ s.passes (lt-ltb _ _ (omega (arith, s.rank)))
 
-    no-share : (i : ℕ) → sound (k + i) ≡ true → share F k sound i row ≡ F.zer
-    no-share i on =
+    no_share : (i : ℕ) → sound (k + i) ≡ true → share F k sound i row ≡ F.zer
+    no_share i on =
         elim (cases_lt row k) [
           | inl less ↦ rw (lt-ltb row k less, off)
           | inr more ↦
@@ -78,23 +78,23 @@ module _ {A : Type 0} (F : Field A) (k p : ℕ) (room : k + 4 ≤ F.size) (four 
         picked : (b : ℕ) → b < counted k bad → Picked k bad b (at b)
         picked b l = planned.picks b (omega (arith, planned.count))
 
-        square : Square F k (counted k bad) used-at at
-        square = square-of F k p sound used-at at room four enough picked used-picked
+        square : Square F k (counted k bad) used_at at
+        square = square_of F k p sound used_at at room four enough picked used_picked
 
         rhs : ℕ → A
-        rhs a = share F k sound (used-at a) row
+        rhs a = share F k sound (used_at a) row
 
-        both : Solves F (counted k bad) used-at at rhs (solution F (counted k bad) used-at at rhs)
-            × ((x : ℕ → A) → Solves F (counted k bad) used-at at rhs x → (j : ℕ) → j < counted k bad → x j ≡ solution F (counted k bad) used-at at rhs j)
-        both = exactly-one-solution F k (counted k bad) used-at at square rhs
+        both : Solves F (counted k bad) used_at at rhs (solution F (counted k bad) used_at at rhs)
+            × ((x : ℕ → A) → Solves F (counted k bad) used_at at rhs x → (j : ℕ) → j < counted k bad → x j ≡ solution F (counted k bad) used_at at rhs j)
+        both = exactly_one_solution F k (counted k bad) used_at at square rhs
 
-        solves : Solves F (counted k bad) used-at at rhs (W row)
+        solves : Solves F (counted k bad) used_at at rhs (W row)
         solves a o =
-            ap (λ c. sum_to F c (λ b. F.mul (coefficient F (used-at a) (at b)) (W row b))) (sym planned.count)
-            ∙ planned.solves row (used-at a) h (used-picked a (omega arith)).below (uses a o)
+            ap (λ c. sum_to F c (λ b. F.mul (coefficient F (used_at a) (at b)) (W row b))) (sym planned.count)
+            ∙ planned.solves row (used_at a) h (used_picked a (omega arith)).below (uses a o)
 
-        none : Solves F (counted k bad) used-at at rhs (λ c. F.zer)
-        none a o = sum-none F (counted k bad) _ (λ b l. mul-zero F _) ∙ sym (no-share (used-at a) (used-picked a (omega arith)).passes)
+        none : Solves F (counted k bad) used_at at rhs (λ c. F.zer)
+        none a o = sum_none F (counted k bad) _ (λ b l. mul-zero F _) ∙ sym (no_share (used_at a) (used_picked a (omega arith)).passes)
 
   abbrev own : ℕ → ℕ → A
   own i row = cond (ltb row k && sound row) (coefficient F i row) F.zer
@@ -102,100 +102,100 @@ module _ {A : Type 0} (F : Field A) (k p : ℕ) (room : k + 4 ≤ F.size) (four 
   abbrev through : ℕ → ℕ → A
   through i row = sum_to F plan.count (λ b. F.mul (coefficient F i (at b)) (W row b))
 
-  parity-weight : (i row : ℕ) → weight-of F k sound plan (k + i) row ≡ F.add (own i row) (through i row)
-  parity-weight i row = let e : k + i - k ≡ i = omega arith in rw (le-ltb (k + i) k (omega arith), e)
+  parity_weight : (i row : ℕ) → weight_of F k sound plan (k + i) row ≡ F.add (own i row) (through i row)
+  parity_weight i row = let e : k + i - k ≡ i = omega arith in rw (le-ltb (k + i) k (omega arith), e)
 
-  lost-weight : (j row : ℕ) → j < k → weight-of F k sound plan j row ≡ W row (counted j bad)
-  lost-weight j row h = rw (lt-ltb j k h)
+  lost_weight : (j row : ℕ) → j < k → weight_of F k sound plan j row ≡ W row (counted j bad)
+  lost_weight j row h = rw (lt-ltb j k h)
 
   -- a row that is not sound has no weight in a row that is worked
-  pub no-weight : (row source : ℕ) → row < k + p → sound row ≡ false ⊎ (k ≤ row) → source < k + p → sound source ≡ false → weight-of F k sound plan row source ≡ F.zer
-  no-weight row source h worked l off =
+  pub no_weight : (row source : ℕ) → row < k + p → sound row ≡ false ⊎ (k ≤ row) → source < k + p → sound source ≡ false → weight_of F k sound plan row source ≡ F.zer
+  no_weight row source h worked l off =
       elim (cases_lt row k) [
         | inl less ↦
             let is : sound row ≡ false = elim worked [ inl e ↦ e | inr more ↦ absurd (omega arith) ] in
-            let rank = counted-before row k bad less (not_from_false _ is) in
-            lost-weight row source less ∙ idle source l off (counted row bad) (omega (arith, planned.count, rank))
+            let rank = counted_before row k bad less (not_from_false _ is) in
+            lost_weight row source less ∙ idle source l off (counted row bad) (omega (arith, planned.count, rank))
         | inr more ↦
             let e : k + (row - k) ≡ row = omega arith in
-            ap (λ r. weight-of F k sound plan r source) (sym e) ∙ parity-weight (row - k) source
-            ∙ ap₂ F.add (rw-own (row - k) source off) (sum-none F plan.count _ (λ b o. ap (F.mul _) (idle source l off b o) ∙ mul-zero F _))
+            ap (λ r. weight_of F k sound plan r source) (sym e) ∙ parity_weight (row - k) source
+            ∙ ap₂ F.add (rw_own (row - k) source off) (sum_none F plan.count _ (λ b o. ap (F.mul _) (idle source l off b o) ∙ mul-zero F _))
             ∙ add-zero F _
       ]
     where
-      rw-own : (i source : ℕ) → sound source ≡ false → own i source ≡ F.zer
-      rw-own i source off = by_cases (ltb source k) (λ t. rw (t, off)) (λ t. rw t)
+      rw_own : (i source : ℕ) → sound source ≡ false → own i source ≡ F.zer
+      rw_own i source off = by_cases (ltb source k) (λ t. rw (t, off)) (λ t. rw t)
 
   module _ (x : ℕ → A) where
     -- the data rows' symbols: sound ones as they are, lost ones from the weights
-    pub data-symbol : ℕ → A
-    data-symbol j = cond (sound j) (x j) (sum_to F (k + p) (λ row. F.mul (W row (counted j bad)) (x row)))
+    pub data_symbol : ℕ → A
+    data_symbol j = cond (sound j) (x j) (sum_to F (k + p) (λ row. F.mul (W row (counted j bad)) (x row)))
 
-    pub data-sound : (j : ℕ) → sound j ≡ true → data-symbol j ≡ x j
-    unfolding data-symbol
-    data-sound j e = rw e
+    pub data_sound : (j : ℕ) → sound j ≡ true → data_symbol j ≡ x j
+    unfolding data_symbol
+    data_sound j e = rw e
 
-    pub data-lost : (j : ℕ) → j < k → sound j ≡ false → sum_to F (k + p) (λ row. F.mul (weight-of F k sound plan j row) (x row)) ≡ data-symbol j
-    unfolding data-symbol
-    data-lost j h e = sum_below F (k + p) _ _ (λ row l. ap (λ w. F.mul w (x row)) (lost-weight j row h)) ∙ sym (rw e)
+    pub data_lost : (j : ℕ) → j < k → sound j ≡ false → sum_to F (k + p) (λ row. F.mul (weight_of F k sound plan j row) (x row)) ≡ data_symbol j
+    unfolding data_symbol
+    data_lost j h e = sum_below F (k + p) _ _ (λ row l. ap (λ w. F.mul w (x row)) (lost_weight j row h)) ∙ sym (rw e)
 
-    abbrev sound-part : ℕ → A
-    sound-part j = cond (sound j) (x j) F.zer
+    abbrev sound_part : ℕ → A
+    sound_part j = cond (sound j) (x j) F.zer
 
-    abbrev lost-part : ℕ → A
-    lost-part j = cond (sound j) F.zer (sum_to F (k + p) (λ row. F.mul (W row (counted j bad)) (x row)))
+    abbrev lost_part : ℕ → A
+    lost_part j = cond (sound j) F.zer (sum_to F (k + p) (λ row. F.mul (W row (counted j bad)) (x row)))
 
-    parts : (j : ℕ) → F.add (sound-part j) (lost-part j) ≡ data-symbol j
-    unfolding data-symbol
+    parts : (j : ℕ) → F.add (sound_part j) (lost_part j) ≡ data_symbol j
+    unfolding data_symbol
     parts j = by_cases (sound j) (λ e. rw e (add-zero F _)) (λ e. rw e (zero-add F _))
 
-    own-sum : (i : ℕ) → sum_to F (k + p) (λ row. F.mul (own i row) (x row)) ≡ sum_to F k (λ j. F.mul (coefficient F i j) (sound-part j))
-    own-sum i =
-        sum-front F k p (λ row. F.mul (own i row) (x row)) (λ h l. ap (λ w. F.mul w (x (k + h))) (above h) ∙ zero-mul F _)
+    own_sum : (i : ℕ) → sum_to F (k + p) (λ row. F.mul (own i row) (x row)) ≡ sum_to F k (λ j. F.mul (coefficient F i j) (sound_part j))
+    own_sum i =
+        sum_front F k p (λ row. F.mul (own i row) (x row)) (λ h l. ap (λ w. F.mul w (x (k + h))) (above h) ∙ zero-mul F _)
         ∙ sum_below F k _ _ here
       where
         above : (h : ℕ) → own i (k + h) ≡ F.zer
         above h = rw (le-ltb (k + h) k (omega arith))
 
-        here : (j : ℕ) → j < k → F.mul (own i j) (x j) ≡ F.mul (coefficient F i j) (sound-part j)
+        here : (j : ℕ) → j < k → F.mul (own i j) (x j) ≡ F.mul (coefficient F i j) (sound_part j)
         here j l = by_cases (sound j) (λ e. rw (lt-ltb j k l, e)) (λ e. rw (lt-ltb j k l, e) (zero-mul F _ ∙ sym (mul-zero F _)))
 
-    lost-at : (b : ℕ) → b < plan.count → sum_to F (k + p) (λ row. F.mul (W row b) (x row)) ≡ lost-part (at b)
-    lost-at b h =
+    lost_at : (b : ℕ) → b < plan.count → sum_to F (k + p) (λ row. F.mul (W row b) (x row)) ≡ lost_part (at b)
+    lost_at b h =
         let pick = planned.picks b h in
         sym (rw (not-true _ pick.passes, pick.rank))
 
-    through-sum : (i : ℕ) → sum_to F (k + p) (λ row. F.mul (through i row) (x row)) ≡ sum_to F k (λ j. F.mul (coefficient F i j) (lost-part j))
-    through-sum i =
-        sum_below F (k + p) _ _ (λ row l. sum-times F plan.count _ (x row) ∙ sum_below F plan.count _ _ (λ b o. mul_assoc F _ _ _))
-        ∙ sum-exchange F (k + p) plan.count (λ row b. F.mul (coefficient F i (at b)) (F.mul (W row b) (x row)))
-        ∙ sum_below F plan.count _ _ (λ b o. sum-mul F (k + p) (coefficient F i (at b)) (λ row. F.mul (W row b) (x row)) ∙ ap (F.mul (coefficient F i (at b))) (lost-at b o))
-        ∙ sum_below F plan.count _ _ (λ b o. ap (λ j. F.mul (coefficient F i j) (lost-part j)) (at-select b o))
-        ∙ ap (λ c. sum_to F c (λ b. F.mul (coefficient F i (select k bad b)) (lost-part (select k bad b)))) planned.count
-        ∙ sym (sum_selected F k bad (λ j. F.mul (coefficient F i j) (lost-part j)) (λ j h e. ap (F.mul (coefficient F i j)) (none j (not-false _ e)) ∙ mul-zero F _))
+    through_sum : (i : ℕ) → sum_to F (k + p) (λ row. F.mul (through i row) (x row)) ≡ sum_to F k (λ j. F.mul (coefficient F i j) (lost_part j))
+    through_sum i =
+        sum_below F (k + p) _ _ (λ row l. sum_times F plan.count _ (x row) ∙ sum_below F plan.count _ _ (λ b o. mul_assoc F _ _ _))
+        ∙ sum_exchange F (k + p) plan.count (λ row b. F.mul (coefficient F i (at b)) (F.mul (W row b) (x row)))
+        ∙ sum_below F plan.count _ _ (λ b o. sum_mul F (k + p) (coefficient F i (at b)) (λ row. F.mul (W row b) (x row)) ∙ ap (F.mul (coefficient F i (at b))) (lost_at b o))
+        ∙ sum_below F plan.count _ _ (λ b o. ap (λ j. F.mul (coefficient F i j) (lost_part j)) (at_select b o))
+        ∙ ap (λ c. sum_to F c (λ b. F.mul (coefficient F i (select k bad b)) (lost_part (select k bad b)))) planned.count
+        ∙ sym (sum_selected F k bad (λ j. F.mul (coefficient F i j) (lost_part j)) (λ j h e. ap (F.mul (coefficient F i j)) (none j (not-false _ e)) ∙ mul-zero F _))
       where
-        none : (j : ℕ) → sound j ≡ true → lost-part j ≡ F.zer
+        none : (j : ℕ) → sound j ≡ true → lost_part j ≡ F.zer
         none j e = rw e
 
     -- a parity row from all data rows
-    pub combined : (i : ℕ) → sum_to F (k + p) (λ row. F.mul (weight-of F k sound plan (k + i) row) (x row)) ≡ combination F k data-symbol i
+    pub combined : (i : ℕ) → sum_to F (k + p) (λ row. F.mul (weight_of F k sound plan (k + i) row) (x row)) ≡ combination F k data_symbol i
     combined i =
-        sum_below F (k + p) _ _ (λ row l. ap (λ w. F.mul w (x row)) (parity-weight i row) ∙ add-mul F _ _ _)
+        sum_below F (k + p) _ _ (λ row l. ap (λ w. F.mul w (x row)) (parity_weight i row) ∙ add-mul F _ _ _)
         ∙ sum-add F (k + p) _ _
-        ∙ ap₂ F.add (own-sum i) (through-sum i)
+        ∙ ap₂ F.add (own_sum i) (through_sum i)
         ∙ sym (sum-add F k _ _)
         ∙ sum_below F k _ _ (λ j l. sym (mul-add F _ _ _) ∙ ap (F.mul (coefficient F i j)) (parts j))
 
     -- a used parity row holds what the data rows make
-    pub used-fits : (i : ℕ) → i < p → used-by F k sound i ≡ true → combination F k data-symbol i ≡ x (k + i)
-    used-fits i h e =
+    pub used_fits : (i : ℕ) → i < p → used_by F k sound i ≡ true → combination F k data_symbol i ≡ x (k + i)
+    used_fits i h e =
         sym (combined i)
-        ∙ sum_one F (k + p) (λ row. F.mul (weight-of F k sound plan (k + i) row) (x row)) (k + i) (omega arith)
-        (λ row l ne. ap (λ w. F.mul w (x row)) (weight-is row l ∙ (let q = ne_eqb row (k + i) ne in rw q)) ∙ zero-mul F _)
-        ∙ ap (λ w. F.mul w (x (k + i))) (weight-is (k + i) (omega arith) ∙ (let q = eq-eqb (k + i) (k + i) refl in rw q)) ∙ one-mul F _
+        ∙ sum_one F (k + p) (λ row. F.mul (weight_of F k sound plan (k + i) row) (x row)) (k + i) (omega arith)
+        (λ row l ne. ap (λ w. F.mul w (x row)) (weight_is row l ∙ (let q = ne_eqb row (k + i) ne in rw q)) ∙ zero-mul F _)
+        ∙ ap (λ w. F.mul w (x (k + i))) (weight_is (k + i) (omega arith) ∙ (let q = eq-eqb (k + i) (k + i) refl in rw q)) ∙ one-mul F _
       where
-        sum-is : (row : ℕ) → row < k + p → F.add (own i row) (share F k sound i row) ≡ cond (eqb row (k + i)) F.one F.zer
-        sum-is row l =
+        sum_is : (row : ℕ) → row < k + p → F.add (own i row) (share F k sound i row) ≡ cond (eqb row (k + i)) F.one F.zer
+        sum_is row l =
             elim (cases_lt row k) [
               | inl less ↦
                   let ne : row ≢ k + i = λ e. omega arith in
@@ -205,5 +205,5 @@ module _ {A : Type 0} (F : Field A) (k p : ℕ) (room : k + 4 ≤ F.size) (four 
               | inr more ↦ rw (le-ltb row k more) (zero-add F _)
             ]
 
-        weight-is : (row : ℕ) → row < k + p → weight-of F k sound plan (k + i) row ≡ cond (eqb row (k + i)) F.one F.zer
-        weight-is row l = parity-weight i row ∙ ap (F.add (own i row)) (planned.solves row i l h e) ∙ sum-is row l
+        weight_is : (row : ℕ) → row < k + p → weight_of F k sound plan (k + i) row ≡ cond (eqb row (k + i)) F.one F.zer
+        weight_is row l = parity_weight i row ∙ ap (F.add (own i row)) (planned.solves row i l h e) ∙ sum_is row l

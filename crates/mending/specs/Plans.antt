@@ -5,7 +5,7 @@ use Rattle.algebra.specs.Algebra.{Field, minus}
 use Rattle.algebra.specs.Sum.{sum_to}
 use Rattle.algebra.specs.Theorems.{coefficient}
 use Rattle.rules.specs.Search.{counted}
-use Rattle.rules.specs.States.{State, k, p, sound, unsound-count}
+use Rattle.rules.specs.States.{State, k, p, sound, unsound_count}
 use Rattle.mending.specs.declared.Damage.{Damage}
 use Rattle.mending.specs.declared.Plan.{Plan}
 use Rattle.mending.specs.Stored.{stored}
@@ -27,8 +27,8 @@ pub record Picked (bound : ℕ) (test : ℕ → Bool) (before i : ℕ) : Type 0 
 
 -- The damage of a state: how many rows are not sound, and, where they are at most four, which.
 pub record Gathered {X : Type 0} (F : Field X) (s : State X) (damage : Damage) : Type 0 where
-  pub rows : unsound-count F s ≤ 4 → (row : ℕ) → row < k s + p s → flag damage row ≡ sound F s row
-  pub count : damage.count ≡ unsound-count F s
+  pub rows : unsound_count F s ≤ 4 → (row : ℕ) → row < k s + p s → flag damage row ≡ sound F s row
+  pub count : damage.count ≡ unsound_count F s
 
 -- over k data rows, and the rows that are sound
 module _ {X : Type 0} (F : Field X) (k : ℕ) (sound : ℕ → Bool) where
@@ -36,29 +36,29 @@ module _ {X : Type 0} (F : Field X) (k : ℕ) (sound : ℕ → Bool) where
   lost j = not (sound j)
 
   -- parity row i is one of the lowest sound parity rows, one for each data row that is not sound
-  abbrev pub used-by : ℕ → Bool
-  used-by i = sound (k + i) && nat_lt (counted i (λ h. sound (k + h))) (counted k lost)
+  abbrev pub used_by : ℕ → Bool
+  used_by i = sound (k + i) && nat_lt (counted i (λ h. sound (k + h))) (counted k lost)
 
   -- what row `row` counts on the right-hand side of parity row i's equation for the lost symbols
   abbrev pub share : ℕ → ℕ → X
   share i row = cond (nat_lt row k) (cond (sound row) (minus F F.zer (coefficient F i row)) F.zer) (cond (row == k + i) F.one F.zer)
 
 -- the weight of a row in the lost data row of a rank
-abbrev pub weight-in : {X : Type 0} → Field X → List (List ℕ) → ℕ → ℕ → X
-weight-in F weights row rank = stored F (slice_index_or weights row []) rank
+abbrev pub weight_in : {X : Type 0} → Field X → List (List ℕ) → ℕ → ℕ → X
+weight_in F weights row rank = stored F (slice_index_or weights row []) rank
 
 -- The lost data rows, at most four, and for each row weights that solve the equations of the used parity rows.
 pub record Planned {X : Type 0} (F : Field X) (k p : ℕ) (sound : ℕ → Bool) (plan : Plan) : Type 0 where
   pub count : plan.count ≡ counted k (lost F k sound)
   pub picks : (b : ℕ) → b < plan.count → Picked k (lost F k sound) b (slice_index plan.lost b)
-  pub solves : (row i : ℕ) → row < k + p → i < p → used-by F k sound i ≡ true
-      → sum_to F plan.count (λ b. F.mul (coefficient F i (slice_index plan.lost b)) (weight-in F plan.weights row b)) ≡ share F k sound i row
+  pub solves : (row i : ℕ) → row < k + p → i < p → used_by F k sound i ≡ true
+      → sum_to F plan.count (λ b. F.mul (coefficient F i (slice_index plan.lost b)) (weight_in F plan.weights row b)) ≡ share F k sound i row
 
 -- the weight of row `source` in a lost data row, or in a parity row that is worked from the data rows
-abbrev pub weight-of : {X : Type 0} → Field X → ℕ → (ℕ → Bool) → Plan → ℕ → ℕ → X
-weight-of F k sound plan row source =
+abbrev pub weight_of : {X : Type 0} → Field X → ℕ → (ℕ → Bool) → Plan → ℕ → ℕ → X
+weight_of F k sound plan row source =
     cond (nat_lt row k)
-    (weight-in F plan.weights source (counted row (lost F k sound)))
+    (weight_in F plan.weights source (counted row (lost F k sound)))
     (F.add
     (cond (nat_lt source k && sound source) (coefficient F (row - k) source) F.zer)
-    (sum_to F plan.count (λ b. F.mul (coefficient F (row - k) (slice_index plan.lost b)) (weight-in F plan.weights source b))))
+    (sum_to F plan.count (λ b. F.mul (coefficient F (row - k) (slice_index plan.lost b)) (weight_in F plan.weights source b))))

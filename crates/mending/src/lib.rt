@@ -5,13 +5,13 @@ ghost use Rattle.std.specs.Prelude.{◌≡◌, ℕ, ◌+◌, ◌<◌, ◌≤◌,
 ghost use Rattle.algebra.specs.Below.{Below};
 ghost use Rattle.rows.specs.Cards.{Holds};
 ghost use Rattle.rules.specs.Codes.{differ};
-ghost use Rattle.rules.specs.Search.{counted, lowest, lowest-pair};
-ghost use Rattle.rules.specs.States.{fits, with-cells, unsound-count};
-ghost use Rattle.rules.specs.Updates.{Worked, worked-misfit, mended-cells};
-ghost use Rattle.rules.specs.Views.{element-at, seen, seen-contents};
+ghost use Rattle.rules.specs.Search.{counted, lowest, lowest_pair};
+ghost use Rattle.rules.specs.States.{fits, with_cells, unsound_count};
+ghost use Rattle.rules.specs.Updates.{Worked, worked_misfit, mended_cells};
+ghost use Rattle.rules.specs.Views.{element_at, seen, seen_contents};
 ghost use Rattle.mending.specs.Plans.{flag, Gathered, Planned};
-ghost use Rattle.mending.specs.Puts.{weighted-sum, block-cells, row-cells};
-ghost use Rattle.mending.specs.Stored.{stored as stored-at};
+ghost use Rattle.mending.specs.Puts.{weighted_sum, block_cells, row_cells};
+ghost use Rattle.mending.specs.Stored.{stored as stored_at};
 
 mod plans;
 mod solver;
@@ -73,7 +73,7 @@ where
 fn weighted<S: Shelf>(shelf: &S, weights: &[usize; 68], rows: usize, place: usize) -> S::Symbol
 where
     S::Symbol: Field,
-    ensures { S.Symbol.Field.meaning result ≡ weighted-sum S.Symbol.Field.algebra S.Symbol.Field.meaning (S.Shelf.contents shelf.now) (stored-at S.Symbol.Field.algebra weights.now) rows place }
+    ensures { S.Symbol.Field.meaning result ≡ weighted_sum S.Symbol.Field.algebra S.Symbol.Field.meaning (S.Shelf.contents shelf.now) (stored_at S.Symbol.Field.algebra weights.now) rows place }
 {
     let mut sum: S::Symbol = <S::Symbol>::zero();
     for row in 0..rows {
@@ -96,8 +96,8 @@ fn first_difference<S: Shelf>(
 where
     S::Symbol: Field,
     ensures { result ≡ lowest block_length (λ place. differ S.Symbol.Field.algebra
-        (weighted-sum S.Symbol.Field.algebra S.Symbol.Field.meaning (S.Shelf.contents shelf.now) (stored-at S.Symbol.Field.algebra weights.now) rows place)
-        (element-at S.Symbol.Field.algebra S.Symbol.Field.meaning (S.Shelf.contents shelf.now) row place)) }
+        (weighted_sum S.Symbol.Field.algebra S.Symbol.Field.meaning (S.Shelf.contents shelf.now) (stored_at S.Symbol.Field.algebra weights.now) rows place)
+        (element_at S.Symbol.Field.algebra S.Symbol.Field.meaning (S.Shelf.contents shelf.now) row place)) }
 {
     for place in 0..block_length {
         let worked = weighted(shelf, weights, rows, place);
@@ -126,8 +126,8 @@ fn row_misfit<S: Shelf>(
 where
     S::Symbol: Field,
     ensures { let F = S.Symbol.Field.algebra in let s = seen S.Symbol.Field.meaning sizes (S.Shelf.contents shelf.now) in
-        fits F s ≡ true → unsound-count F s ≤ sizes.parity_rows → Gathered F s damage.now → Planned F sizes.data_rows sizes.parity_rows (flag damage.now) plan.now
-        → i < sizes.parity_rows → (blocks : ℕ → ℕ → Below S.Symbol.Field.size) → Worked F s blocks → result ≡ lowest sizes.block_length (worked-misfit F s blocks i) }
+        fits F s ≡ true → unsound_count F s ≤ sizes.parity_rows → Gathered F s damage.now → Planned F sizes.data_rows sizes.parity_rows (flag damage.now) plan.now
+        → i < sizes.parity_rows → (blocks : ℕ → ℕ → Below S.Symbol.Field.size) → Worked F s blocks → result ≡ lowest sizes.block_length (worked_misfit F s blocks i) }
 {
     let row = sizes.data_rows.saturating_add(i);
     if !is_sound(damage, row) {
@@ -152,8 +152,8 @@ pub fn first_worked_misfit<S: Shelf>(
 where
     S::Symbol: Field,
     ensures { let F = S.Symbol.Field.algebra in let s = seen S.Symbol.Field.meaning sizes (S.Shelf.contents shelf.now) in
-        fits F s ≡ true → unsound-count F s ≤ sizes.parity_rows → Gathered F s damage.now → Planned F sizes.data_rows sizes.parity_rows (flag damage.now) plan.now
-        → (blocks : ℕ → ℕ → Below S.Symbol.Field.size) → Worked F s blocks → result ≡ lowest-pair sizes.parity_rows sizes.block_length (worked-misfit F s blocks) }
+        fits F s ≡ true → unsound_count F s ≤ sizes.parity_rows → Gathered F s damage.now → Planned F sizes.data_rows sizes.parity_rows (flag damage.now) plan.now
+        → (blocks : ℕ → ℕ → Below S.Symbol.Field.size) → Worked F s blocks → result ≡ lowest_pair sizes.parity_rows sizes.block_length (worked_misfit F s blocks) }
 {
     for i in 0..sizes.parity_rows {
         if let Some(place) = row_misfit(shelf, sizes, damage, plan, i) {
@@ -168,7 +168,7 @@ fn put_block<S: Shelf>(shelf: &mut S, sizes: Sizes, weights: &[usize; 68], row: 
 where
     S::Symbol: Field,
     ensures { let F = S.Symbol.Field.algebra in let meaning = S.Symbol.Field.meaning in let before = S.Shelf.contents shelf.old in
-        row < sizes.data_rows + sizes.parity_rows → Holds F meaning sizes before (block-cells F meaning sizes (stored-at F weights.now) row before sizes.block_length) (S.Shelf.contents shelf.new) }
+        row < sizes.data_rows + sizes.parity_rows → Holds F meaning sizes before (block_cells F meaning sizes (stored_at F weights.now) row before sizes.block_length) (S.Shelf.contents shelf.new) }
 {
     let rows = sizes.data_rows.saturating_add(sizes.parity_rows);
     for place in 0..sizes.block_length {
@@ -182,7 +182,7 @@ fn put_row<S: Shelf>(shelf: &mut S, sizes: Sizes, weights: &[usize; 68], row: us
 where
     S::Symbol: Field,
     ensures { let F = S.Symbol.Field.algebra in let meaning = S.Symbol.Field.meaning in let before = S.Shelf.contents shelf.old in
-        row < sizes.data_rows + sizes.parity_rows → Holds F meaning sizes before (row-cells F meaning sizes (stored-at F weights.now) row before) (S.Shelf.contents shelf.new) }
+        row < sizes.data_rows + sizes.parity_rows → Holds F meaning sizes before (row_cells F meaning sizes (stored_at F weights.now) row before) (S.Shelf.contents shelf.new) }
 {
     put_block(shelf, sizes, weights, row);
     rows::put_card(shelf, sizes, row);
@@ -193,8 +193,8 @@ pub fn put_rows<S: Shelf>(shelf: &mut S, sizes: Sizes, damage: &Damage, plan: &P
 where
     S::Symbol: Field,
     ensures { let F = S.Symbol.Field.algebra in let meaning = S.Symbol.Field.meaning in let s = seen meaning sizes (S.Shelf.contents shelf.old) in
-        fits F s ≡ true → unsound-count F s ≤ sizes.parity_rows → Gathered F s damage.now → Planned F sizes.data_rows sizes.parity_rows (flag damage.now) plan.now
-        → (blocks : ℕ → ℕ → Below S.Symbol.Field.size) → Worked F s blocks → seen-contents meaning (S.Shelf.contents shelf.new) ≡ (with-cells s (mended-cells F s blocks)).contents }
+        fits F s ≡ true → unsound_count F s ≤ sizes.parity_rows → Gathered F s damage.now → Planned F sizes.data_rows sizes.parity_rows (flag damage.now) plan.now
+        → (blocks : ℕ → ℕ → Below S.Symbol.Field.size) → Worked F s blocks → seen_contents meaning (S.Shelf.contents shelf.new) ≡ (with_cells s (mended_cells F s blocks)).contents }
 {
     for row in 0..sizes.data_rows.saturating_add(sizes.parity_rows) {
         if !is_sound(damage, row) {

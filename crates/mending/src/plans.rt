@@ -2,10 +2,10 @@
 
 ghost use Rattle.std.specs.Prelude.{◌≡◌, ℕ, ◌+◌, ◌<◌, ◌≤◌, not, slice_index};
 ghost use Rattle.algebra.specs.Sum.{sum_to};
-ghost use Rattle.algebra.specs.Theorems.{coefficient as coefficient-of, Square, Solves};
+ghost use Rattle.algebra.specs.Theorems.{coefficient as coefficient_of, Square, Solves};
 ghost use Rattle.rules.specs.Search.{counted};
-ghost use Rattle.mending.specs.Plans.{flag, equally, Picked, share as share-of, weight-in, weight-of, Planned};
-ghost use Rattle.mending.specs.Stored.{stored as stored-at};
+ghost use Rattle.mending.specs.Plans.{flag, equally, Picked, share as share_of, weight_in, weight_of, Planned};
+ghost use Rattle.mending.specs.Stored.{stored as stored_at};
 
 use crate::solver::{solution, store, stored};
 use crate::{Damage, Plan, is_sound};
@@ -50,7 +50,7 @@ fn column_points(columns: &[usize; 4]) -> [usize; 4]
 
 // What a row counts on the right-hand side of parity row i's equation for the lost symbols.
 fn share<F: Field>(damage: &Damage, data_rows: usize, i: usize, row: usize) -> F
-    ensures { data_rows ≤ 64 → data_rows + 4 ≤ F.Field.algebra.size → i < 4 → F.Field.meaning result ≡ share-of F.Field.algebra data_rows (flag damage.now) i row }
+    ensures { data_rows ≤ 64 → data_rows + 4 ≤ F.Field.algebra.size → i < 4 → F.Field.meaning result ≡ share_of F.Field.algebra data_rows (flag damage.now) i row }
 {
     if row < data_rows {
         if is_sound(damage, row) {
@@ -67,7 +67,7 @@ fn share<F: Field>(damage: &Damage, data_rows: usize, i: usize, row: usize) -> F
 
 // The right-hand side that a row makes: its share in each used parity row's equation.
 fn shares<F: Field>(damage: &Damage, data_rows: usize, used: &[usize; 4], row: usize) -> [usize; 4]
-    ensures { data_rows ≤ 64 → data_rows + 4 ≤ F.Field.algebra.size → (a : ℕ) → a < 4 → slice_index used.now a < 4 → stored-at F.Field.algebra result a ≡ share-of F.Field.algebra data_rows (flag damage.now) (slice_index used.now a) row }
+    ensures { data_rows ≤ 64 → data_rows + 4 ≤ F.Field.algebra.size → (a : ℕ) → a < 4 → slice_index used.now a < 4 → stored_at F.Field.algebra result a ≡ share_of F.Field.algebra data_rows (flag damage.now) (slice_index used.now a) row }
 {
     let mut right = [0; 4];
     for a in 0..4 {
@@ -86,7 +86,7 @@ fn working<F: Field>(
     row: usize,
 ) -> [usize; 4]
     ensures { data_rows ≤ 64 → lost.now.count ≤ 4 → Square F.Field.algebra data_rows lost.now.count (slice_index used.now) (slice_index lost.now.at)
-        → Solves F.Field.algebra lost.now.count (slice_index used.now) (slice_index lost.now.at) (λ a. share-of F.Field.algebra data_rows (flag damage.now) (slice_index used.now a) row) (stored-at F.Field.algebra result) }
+        → Solves F.Field.algebra lost.now.count (slice_index used.now) (slice_index lost.now.at) (λ a. share_of F.Field.algebra data_rows (flag damage.now) (slice_index used.now a) row) (stored_at F.Field.algebra result) }
 {
     let columns = column_points(&lost.at);
     let right = shares::<F>(damage, data_rows, used, row);
@@ -102,7 +102,7 @@ fn all_weights<F: Field>(
     lost: &Picks,
 ) -> [[usize; 4]; 68]
     ensures { data_rows ≤ 64 → lost.now.count ≤ 4 → Square F.Field.algebra data_rows lost.now.count (slice_index used.now) (slice_index lost.now.at)
-        → (row : ℕ) → row < rows → row < 68 → Solves F.Field.algebra lost.now.count (slice_index used.now) (slice_index lost.now.at) (λ a. share-of F.Field.algebra data_rows (flag damage.now) (slice_index used.now a) row) (weight-in F.Field.algebra result row) }
+        → (row : ℕ) → row < rows → row < 68 → Solves F.Field.algebra lost.now.count (slice_index used.now) (slice_index lost.now.at) (λ a. share_of F.Field.algebra data_rows (flag damage.now) (slice_index used.now a) row) (weight_in F.Field.algebra result row) }
 {
     let mut weights = [[0; 4]; 68];
     for row in 0..rows.min(68) {
@@ -131,7 +131,7 @@ pub fn make_plan<F: Field>(sizes: Sizes, damage: &Damage) -> Plan
 
 // The weight of a row in the lost data row of a rank.
 fn planned<F: Field>(plan: &Plan, row: usize, rank: usize) -> F
-    ensures { F.Field.meaning result ≡ weight-in F.Field.algebra plan.now.weights row rank }
+    ensures { F.Field.meaning result ≡ weight_in F.Field.algebra plan.now.weights row rank }
 {
     match plan.weights.get(row) {
         Some(column) => stored(column, rank),
@@ -141,7 +141,7 @@ fn planned<F: Field>(plan: &Plan, row: usize, rank: usize) -> F
 
 // The weights of so many rows in the lost data row of a rank.
 fn lost_weights<F: Field>(plan: &Plan, rows: usize, rank: usize) -> [usize; 68]
-    ensures { (row : ℕ) → row < rows → row < 68 → stored-at F.Field.algebra result row ≡ weight-in F.Field.algebra plan.now.weights row rank }
+    ensures { (row : ℕ) → row < rows → row < 68 → stored_at F.Field.algebra result row ≡ weight_in F.Field.algebra plan.now.weights row rank }
 {
     let mut weights = [0; 68];
     for row in 0..rows.min(68) {
@@ -154,7 +154,7 @@ fn lost_weights<F: Field>(plan: &Plan, rows: usize, rank: usize) -> [usize; 68]
 // The weight of a row in a sum over the lost data rows, by the coefficients of parity row i.
 fn through_lost<F: Field>(plan: &Plan, i: usize, row: usize) -> F
     ensures { i < 4 → ((b : ℕ) → b < plan.now.count → (slice_index plan.now.lost b < 64) × (4 + slice_index plan.now.lost b < F.Field.algebra.size)) → plan.now.count ≤ 4
-        → F.Field.meaning result ≡ sum_to F.Field.algebra plan.now.count (λ b. F.Field.algebra.mul (coefficient-of F.Field.algebra i (slice_index plan.now.lost b)) (weight-in F.Field.algebra plan.now.weights row b)) }
+        → F.Field.meaning result ≡ sum_to F.Field.algebra plan.now.count (λ b. F.Field.algebra.mul (coefficient_of F.Field.algebra i (slice_index plan.now.lost b)) (weight_in F.Field.algebra plan.now.weights row b)) }
 {
     let mut sum: F = F::zero();
     for b in 0..plan.count.min(4) {
@@ -167,7 +167,7 @@ fn through_lost<F: Field>(plan: &Plan, i: usize, row: usize) -> F
 // The weight of a row in parity row i, worked from the data rows: its own coefficient, and its part in the lost data rows.
 fn parity_weight<F: Field>(sizes: Sizes, damage: &Damage, plan: &Plan, i: usize, row: usize) -> F
     ensures { sizes.data_rows ≤ 64 → sizes.data_rows + 4 ≤ F.Field.algebra.size → i < 4 → plan.now.count ≤ 4 → ((b : ℕ) → b < plan.now.count → slice_index plan.now.lost b < sizes.data_rows)
-        → F.Field.meaning result ≡ weight-of F.Field.algebra sizes.data_rows (flag damage.now) plan.now (sizes.data_rows + i) row }
+        → F.Field.meaning result ≡ weight_of F.Field.algebra sizes.data_rows (flag damage.now) plan.now (sizes.data_rows + i) row }
 {
     let through: F = through_lost(plan, i, row);
     if row < sizes.data_rows && is_sound(damage, row) {
@@ -180,7 +180,7 @@ fn parity_weight<F: Field>(sizes: Sizes, damage: &Damage, plan: &Plan, i: usize,
 // The weights of the tray's rows in parity row i, worked from the data rows.
 fn parity_weights<F: Field>(sizes: Sizes, damage: &Damage, plan: &Plan, i: usize) -> [usize; 68]
     ensures { sizes.data_rows ≤ 64 → sizes.data_rows + 4 ≤ F.Field.algebra.size → i < 4 → plan.now.count ≤ 4 → ((b : ℕ) → b < plan.now.count → slice_index plan.now.lost b < sizes.data_rows)
-        → (row : ℕ) → row < sizes.data_rows + sizes.parity_rows → row < 68 → stored-at F.Field.algebra result row ≡ weight-of F.Field.algebra sizes.data_rows (flag damage.now) plan.now (sizes.data_rows + i) row }
+        → (row : ℕ) → row < sizes.data_rows + sizes.parity_rows → row < 68 → stored_at F.Field.algebra result row ≡ weight_of F.Field.algebra sizes.data_rows (flag damage.now) plan.now (sizes.data_rows + i) row }
 {
     let mut weights = [0; 68];
     for row in 0..sizes.data_rows.saturating_add(sizes.parity_rows).min(68) {
@@ -199,7 +199,7 @@ pub(crate) fn row_weights<F: Field>(
 ) -> [usize; 68]
     ensures { sizes.data_rows ≤ 64 → sizes.parity_rows ≤ 4 → sizes.data_rows + 4 ≤ F.Field.algebra.size → row < sizes.data_rows + sizes.parity_rows
         → plan.now.count ≤ 4 → ((b : ℕ) → b < plan.now.count → slice_index plan.now.lost b < sizes.data_rows)
-        → (source : ℕ) → source < sizes.data_rows + sizes.parity_rows → stored-at F.Field.algebra result source ≡ weight-of F.Field.algebra sizes.data_rows (flag damage.now) plan.now row source }
+        → (source : ℕ) → source < sizes.data_rows + sizes.parity_rows → stored_at F.Field.algebra result source ≡ weight_of F.Field.algebra sizes.data_rows (flag damage.now) plan.now row source }
 {
     if row < sizes.data_rows {
         let rows = sizes.data_rows.saturating_add(sizes.parity_rows);

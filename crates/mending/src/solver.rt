@@ -2,14 +2,14 @@
 
 ghost use Rattle.std.specs.Prelude.{◌≡◌, ◌≢◌, ℕ, ◌+◌, ◌-◌, ◌<◌, ◌≤◌, length};
 ghost use Rattle.algebra.specs.Algebra.{minus};
-ghost use Rattle.algebra.specs.Cauchy.{row, solve as solve-of};
-ghost use Rattle.mending.specs.Stored.{from, element-of, stored as stored-at, reduced-at, grown-at};
+ghost use Rattle.algebra.specs.Cauchy.{row, solve as solve_of};
+ghost use Rattle.mending.specs.Stored.{from, element_of, stored as stored_at, reduced_at, grown_at};
 
 use algebra::Field;
 
 // The element of a number, and zero where there is none.
 pub(crate) fn element<F: Field>(number: usize) -> F
-    ensures { F.Field.meaning result ≡ element-of F.Field.algebra number }
+    ensures { F.Field.meaning result ≡ element_of F.Field.algebra number }
 {
     match F::numbered(number) {
         Some(x) => x,
@@ -19,7 +19,7 @@ pub(crate) fn element<F: Field>(number: usize) -> F
 
 // The element at an index, and zero beyond the array.
 pub(crate) fn stored<F: Field>(numbers: &[usize], index: usize) -> F
-    ensures { F.Field.meaning result ≡ stored-at F.Field.algebra numbers.now index }
+    ensures { F.Field.meaning result ≡ stored_at F.Field.algebra numbers.now index }
 {
     match numbers.get(index) {
         Some(number) => element(*number),
@@ -29,8 +29,8 @@ pub(crate) fn stored<F: Field>(numbers: &[usize], index: usize) -> F
 
 // Puts another element at an index, where the array has that index.
 pub(crate) fn store<F: Field>(numbers: &mut [usize], index: usize, x: F)
-    ensures here { index < length numbers.old → stored-at F.Field.algebra numbers.new index ≡ F.Field.meaning x }
-    ensures others { (j : ℕ) → j ≢ index → stored-at F.Field.algebra numbers.new j ≡ stored-at F.Field.algebra numbers.old j }
+    ensures here { index < length numbers.old → stored_at F.Field.algebra numbers.new index ≡ F.Field.meaning x }
+    ensures others { (j : ℕ) → j ≢ index → stored_at F.Field.algebra numbers.new j ≡ stored_at F.Field.algebra numbers.old j }
 {
     if index < numbers.len() {
         numbers[index] = x.number();
@@ -45,8 +45,8 @@ fn reduced<F: Field>(
     first: usize,
     size: usize,
 ) -> [usize; 4]
-    ensures here { size ≤ 4 → (i : ℕ) → first < i → i < size → stored-at F.Field.algebra result i ≡ reduced-at F.Field.algebra (stored-at F.Field.algebra rows.now) (stored-at F.Field.algebra columns.now) (stored-at F.Field.algebra right) first i }
-    ensures others { (i : ℕ) → i ≤ first → stored-at F.Field.algebra result i ≡ stored-at F.Field.algebra right i }
+    ensures here { size ≤ 4 → (i : ℕ) → first < i → i < size → stored_at F.Field.algebra result i ≡ reduced_at F.Field.algebra (stored_at F.Field.algebra rows.now) (stored_at F.Field.algebra columns.now) (stored_at F.Field.algebra right) first i }
+    ensures others { (i : ℕ) → i ≤ first → stored_at F.Field.algebra result i ≡ stored_at F.Field.algebra right i }
 {
     let row: F = stored(rows, first);
     let column: F = stored(columns, first);
@@ -72,8 +72,8 @@ fn grown<F: Field>(
     first: usize,
     size: usize,
 ) -> [usize; 4]
-    ensures here { size ≤ 4 → (j : ℕ) → first < j → j < size → stored-at F.Field.algebra result j ≡ grown-at F.Field.algebra (stored-at F.Field.algebra rows.now) (stored-at F.Field.algebra columns.now) (stored-at F.Field.algebra unknowns) first j }
-    ensures others { (j : ℕ) → j ≤ first → stored-at F.Field.algebra result j ≡ stored-at F.Field.algebra unknowns j }
+    ensures here { size ≤ 4 → (j : ℕ) → first < j → j < size → stored_at F.Field.algebra result j ≡ grown_at F.Field.algebra (stored_at F.Field.algebra rows.now) (stored_at F.Field.algebra columns.now) (stored_at F.Field.algebra unknowns) first j }
+    ensures others { (j : ℕ) → j ≤ first → stored_at F.Field.algebra result j ≡ stored_at F.Field.algebra unknowns j }
 {
     let row: F = stored(rows, first);
     let column: F = stored(columns, first);
@@ -98,7 +98,7 @@ fn row_sum<F: Field>(
     start: usize,
     size: usize,
 ) -> F
-    ensures { start ≤ size → F.Field.meaning result ≡ row F.Field.algebra (size - start) (from start (stored-at F.Field.algebra columns.now)) (from start (stored-at F.Field.algebra unknowns.now)) (F.Field.meaning point) }
+    ensures { start ≤ size → F.Field.meaning result ≡ row F.Field.algebra (size - start) (from start (stored_at F.Field.algebra columns.now)) (from start (stored_at F.Field.algebra unknowns.now)) (F.Field.meaning point) }
 {
     let mut sum: F = F::zero();
     for j in start..size {
@@ -117,8 +117,8 @@ fn solve<F: Field>(
     first: usize,
     size: usize,
 ) -> [usize; 4]
-    ensures here { size ≤ 4 → (j : ℕ) → first ≤ j → j < size → stored-at F.Field.algebra result j ≡ solve-of F.Field.algebra (size - first) (from first (stored-at F.Field.algebra rows.now)) (from first (stored-at F.Field.algebra columns.now)) (from first (stored-at F.Field.algebra right)) (j - first) }
-    ensures others { (j : ℕ) → j < first → stored-at F.Field.algebra result j ≡ stored-at F.Field.algebra right j }
+    ensures here { size ≤ 4 → (j : ℕ) → first ≤ j → j < size → stored_at F.Field.algebra result j ≡ solve_of F.Field.algebra (size - first) (from first (stored_at F.Field.algebra rows.now)) (from first (stored_at F.Field.algebra columns.now)) (from first (stored_at F.Field.algebra right)) (j - first) }
+    ensures others { (j : ℕ) → j < first → stored_at F.Field.algebra result j ≡ stored_at F.Field.algebra right j }
 {
     if first >= size {
         return right;
@@ -143,7 +143,7 @@ pub(crate) fn solution<F: Field>(
     right: [usize; 4],
     size: usize,
 ) -> [usize; 4]
-    ensures { size ≤ 4 → (j : ℕ) → j < size → stored-at F.Field.algebra result j ≡ F.Field.algebra.mul (F.Field.algebra.inv (minus F.Field.algebra F.Field.algebra.zer (stored-at F.Field.algebra columns.now j))) (solve-of F.Field.algebra size (stored-at F.Field.algebra rows.now) (stored-at F.Field.algebra columns.now) (stored-at F.Field.algebra right) j) }
+    ensures { size ≤ 4 → (j : ℕ) → j < size → stored_at F.Field.algebra result j ≡ F.Field.algebra.mul (F.Field.algebra.inv (minus F.Field.algebra F.Field.algebra.zer (stored_at F.Field.algebra columns.now j))) (solve_of F.Field.algebra size (stored_at F.Field.algebra rows.now) (stored_at F.Field.algebra columns.now) (stored_at F.Field.algebra right) j) }
 {
     let unknowns = solve::<F>(rows, columns, right, 0, size);
     let mut solution = unknowns;

@@ -2,9 +2,9 @@
 #![tactic(auto)]
 
 ghost use Rattle.std.specs.Prelude.{◌≡◌, ◌<◌, length, slice_index_or};
-ghost use Rattle.shelves.specs.Contents.{put-answer, after-put};
+ghost use Rattle.shelves.specs.Contents.{put_answer, after_put};
 ghost use Rattle.shelves.specs.Memory.{memory, sized};
-ghost use Rattle.own_shelf.specs.Own.{own-contents, own-spot, with-hole};
+ghost use Rattle.own_shelf.specs.Own.{own_contents, own_spot, with_hole};
 
 use shelves::{Got, Placed, Shelf};
 
@@ -27,7 +27,7 @@ fn read_at<T: Copy>(symbols: &[T], at: usize) -> T
 
 impl<T: Copy> OwnShelf<T> {
     pub fn over(rows: usize, places: usize, symbols: Vec<T>, marks: Vec<u8>) -> OwnShelf<T>
-        ensures { own-contents result ≡ memory rows places symbols.items marks.items }
+        ensures { own_contents result ≡ memory rows places symbols.items marks.items }
     {
         OwnShelf {
             rows,
@@ -49,7 +49,7 @@ impl<T: Copy> OwnShelf<T> {
 
     // Where the symbol and the mark of a row and a place lie, if the shelf has them.
     fn spot(&self, row: usize, place: usize) -> Option<usize>
-        ensures { result ≡ own-spot self.now row place }
+        ensures { result ≡ own_spot self.now row place }
     {
         if self.is_sized() && row < self.rows && place < self.places {
             Some(row * self.places + place)
@@ -60,7 +60,7 @@ impl<T: Copy> OwnShelf<T> {
 
     // Makes a hole, as damage does; the symbol stays in memory, unread.
     pub fn lose(&mut self, row: usize, place: usize)
-        ensures { own-contents self.new ≡ with-hole (own-contents self.old) row place }
+        ensures { own_contents self.new ≡ with_hole (own_contents self.old) row place }
     {
         if let Some(at) = self.spot(row, place) {
             self.marks[at] = 0;
@@ -71,7 +71,7 @@ impl<T: Copy> OwnShelf<T> {
 impl<T: Copy> Shelf for OwnShelf<T> {
     type Symbol = T;
 
-    ghost contents = { own-contents };
+    ghost contents = { own_contents };
 
     fn rows(&self) -> usize {
         if self.is_sized() { self.rows } else { 0 }

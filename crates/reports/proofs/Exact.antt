@@ -1,21 +1,21 @@
 -- What a report on an image amounts to.
 use Rattle.std.proofs.Common.{◌≡◌, ℕ, ◌+◌, ◌<◌, ◌≤◌, List, [], min, take, Ok, Err, Result, sym, refl, ap, ◌∙◌, subst, ap₂, arith, lt-ltb}
 use Rattle.algebra.specs.Algebra.{Field}
-use Rattle.byte_field.specs.Meaning.{byte-algebra}
-use Rattle.counter_field.specs.Meaning.{counter-algebra}
+use Rattle.byte_field.specs.Meaning.{byte_algebra}
+use Rattle.counter_field.specs.Meaning.{counter_algebra}
 use Rattle.images.specs.declared.FieldKind.{FieldKind}
 use Rattle.images.specs.declared.FieldKind.TheVariants.{Byte, Counter}
 use Rattle.images.specs.declared.Head.{Head}
 use Rattle.shelves.specs.Contents.{Contents}
 use Rattle.rules.specs.Calls.{intake, done}
 use Rattle.rules.specs.Promises.{Promise}
-use Rattle.rules.specs.States.{State, new, symbol-or, k, p, m}
+use Rattle.rules.specs.States.{State, new, symbol_or, k, p, m}
 use Rattle.rules.specs.declared.Sizes.{Sizes}
-use Rattle.rules.proofs.Intake.{intake-exact}
+use Rattle.rules.proofs.Intake.{intake_exact}
 use Rattle.rules.proofs.Rows.{fitting}
-use Rattle.reports.specs.Cards.{listed, component-number, cards-of, numbers_of, Outcome-of}
-use Rattle.reports.specs.Exact.{signature-numbers, OutcomeExact, ImageExact, ReportExact}
-use Rattle.reports.specs.Report.{sizes-of, ImageOutcome, ReportOf, input-head, Reported}
+use Rattle.reports.specs.Cards.{listed, component_number, cards_of, numbers_of, OutcomeOf}
+use Rattle.reports.specs.Exact.{signature_numbers, OutcomeExact, ImageExact, ReportExact}
+use Rattle.reports.specs.Report.{head_sizes, ImageOutcome, ReportOf, input_head, Reported}
 use Rattle.reports.specs.declared.InputRefusal.{InputRefusal}
 use Rattle.reports.specs.declared.Report.{Report}
 use Rattle.reports.specs.declared.Report.TheVariants.{Tray}
@@ -23,61 +23,61 @@ use Rattle.reports.specs.declared.cards.Card.{Card}
 use Rattle.reports.specs.declared.cards.Cards.{Cards}
 use Rattle.reports.specs.declared.cards.Outcome.{Outcome}
 use Rattle.reports.specs.declared.cards.Outcome.TheVariants.{Taken, Refused}
-use Rattle.reports.proofs.Listing.{get-listed, take-listed, listed-same}
-use Rattle.reports.proofs.Taking.{card-of, taken-fits}
+use Rattle.reports.proofs.Listing.{get_listed, take_listed, listed_same}
+use Rattle.reports.proofs.Taking.{card_of, taken_fits}
 
 module _ {A : Type 0} (F : Field A) where
   -- the numbers in the table
-  numbers-in : (s : State A) (row : ℕ) → row < 68 → m s ≤ 8 → numbers_of (cards-of F s) row ≡ listed (m s) (component-number F s row)
-  numbers-in s row h few =
+  numbers_in : (s : State A) (row : ℕ) → row < 68 → m s ≤ 8 → numbers_of (cards_of F s) row ≡ listed (m s) (component_number F s row)
+  numbers_in s row h few =
       let e : min (m s) 8 ≡ m s = omega arith in
-      ap₂ (λ v (w : Card). take v w.numbers) e (get-listed 68 (card-of F s) row (record { numbers = [] }) h) ∙ take-listed 8 (m s) (component-number F s row) few
+      ap₂ (λ v (w : Card). take v w.numbers) e (get_listed 68 (card_of F s) row (record { numbers = [] }) h) ∙ take_listed 8 (m s) (component_number F s row) few
 
   module _ (sizes : Sizes) (contents : Contents A) where
     abbrev s : State A
     s = new sizes contents
 
     -- after an accepted intake
-    signed : (after : State A) → Promise F s intake done after → (row : ℕ) → row < k s + p s → numbers_of (cards-of F after) row ≡ signature-numbers F s row
+    signed : (after : State A) → Promise F s intake done after → (row : ℕ) → row < k s + p s → numbers_of (cards_of F after) row ≡ signature_numbers F s row
     signed after promise row h =
-        let (same, fit) = taken-fits F s after promise in
+        let (same, fit) = taken_fits F s after promise in
         let f = fitting F s fit in
-        let stocked = (intake-exact F sizes contents done after promise).1 refl in
+        let stocked = (intake_exact F sizes contents done after promise).1 refl in
         let at : State A = record { sizes = sizes; contents = after.contents; taken_in = after.taken_in; round = after.round; sheet = after.sheet } in
-        ap (λ v. numbers_of (cards-of F (new v after.contents)) row) same
-        ∙ numbers-in (new sizes after.contents) row (omega arith) f.m-high
-        ∙ listed-same (m s) (component-number F (new sizes after.contents) row) _
-        (λ c l. rw (lt-ltb row (k s + p s) h, lt-ltb c (m s) l) (ap (λ v. F.number (symbol-or F.zer v)) (stocked.cards row c h l)))
+        ap (λ v. numbers_of (cards_of F (new v after.contents)) row) same
+        ∙ numbers_in (new sizes after.contents) row (omega arith) f.m_high
+        ∙ listed_same (m s) (component_number F (new sizes after.contents) row) _
+        (λ c l. rw (lt-ltb row (k s + p s) h, lt-ltb c (m s) l) (ap (λ v. F.number (symbol_or F.zer v)) (stocked.cards row c h l)))
 
-    pub outcome-exact : (o : Outcome) → Outcome-of F s o → OutcomeExact F s o
-    outcome-exact (Taken cards) a =
-        let e = intake-exact F sizes contents done a.after a.promise in
-        let sizes_same = (taken-fits F s a.after a.promise).0 in
+    pub outcome_exact : (o : Outcome) → OutcomeOf F s o → OutcomeExact F s o
+    outcome_exact (Taken cards) a =
+        let e = intake_exact F sizes contents done a.after a.promise in
+        let sizes_same = (taken_fits F s a.after a.promise).0 in
         record {
           taken = (λ x. e.0.0 refl, λ d. (cards, refl));
           rows = λ told is. let same : cards ≡ told = cc in sym (ap (λ (v : Cards). v.rows) same) ∙ ap (λ (v : Cards). v.rows) a.cards ∙ ap (λ (v : Sizes). v.data_rows + v.parity_rows) sizes_same;
           cards = λ told is row h. let same : cards ≡ told = cc in ap (λ v. numbers_of v row) (sym same ∙ a.cards) ∙ signed a.after a.promise row h;
         }
-    outcome-exact (Refused r) a =
-        let e = intake-exact F sizes contents _ a.after a.promise in
+    outcome_exact (Refused r) a =
+        let e = intake_exact F sizes contents _ a.after a.promise in
         record {
           taken = (λ x. let z : ◌≡◌ {A = ℕ} 0 1 = cc in absurd (omega arith), λ d. let y = e.0.1 d in let z : ◌≡◌ {A = ℕ} 0 1 = cc in absurd (omega arith));
           rows = λ told is. let z : ◌≡◌ {A = ℕ} 0 1 = cc in absurd (omega arith);
           cards = λ told is row h. let z : ◌≡◌ {A = ℕ} 0 1 = cc in absurd (omega arith);
         }
 
-image-exact : (f : FieldKind) (sizes : Sizes) (bytes : List ℕ) (o : Outcome) → ImageOutcome f sizes bytes o → ImageExact f sizes bytes o
-image-exact Byte sizes bytes o a = outcome-exact byte-algebra sizes _ o a
-image-exact Counter sizes bytes o a = outcome-exact counter-algebra sizes _ o a
+image_exact : (f : FieldKind) (sizes : Sizes) (bytes : List ℕ) (o : Outcome) → ImageOutcome f sizes bytes o → ImageExact f sizes bytes o
+image_exact Byte sizes bytes o a = outcome_exact byte_algebra sizes _ o a
+image_exact Counter sizes bytes o a = outcome_exact counter_algebra sizes _ o a
 
-exact-of : (bytes : List ℕ) (input-head : Result Head InputRefusal) (report : Report) → ReportOf bytes input-head report → ReportExact bytes report
-exact-of bytes (Err r) report a h o is = let z : ◌≡◌ {A = ℕ} 0 1 = cc in absurd (omega arith)
-exact-of bytes (Ok g) report (o', is', a) h o is =
+exact_of : (bytes : List ℕ) (input_head : Result Head InputRefusal) (report : Report) → ReportOf bytes input_head report → ReportExact bytes report
+exact_of bytes (Err r) report a h o is = let z : ◌≡◌ {A = ℕ} 0 1 = cc in absurd (omega arith)
+exact_of bytes (Ok g) report (o', is', a) h o is =
     let both : ◌≡◌ {A = Report} (Tray g o') (Tray h o) = sym is' ∙ is in
     let same : g ≡ h = cc in
     let same' : o' ≡ o = cc in
-    subst (λ (v : Head). ImageExact v.field (sizes-of v) bytes o) same
-    (subst (λ (v : Outcome). ImageExact g.field (sizes-of g) bytes v) same' (image-exact g.field (sizes-of g) bytes o' a))
+    subst (λ (v : Head). ImageExact v.field (head_sizes v) bytes o) same
+    (subst (λ (v : Outcome). ImageExact g.field (head_sizes g) bytes v) same' (image_exact g.field (head_sizes g) bytes o' a))
 
-pub report-exact : (bytes : List ℕ) (report : Report) → Reported bytes report → ReportExact bytes report
-report-exact bytes report a = exact-of bytes (input-head bytes) report a
+pub report_exact : (bytes : List ℕ) (report : Report) → Reported bytes report → ReportExact bytes report
+report_exact bytes report a = exact_of bytes (input_head bytes) report a

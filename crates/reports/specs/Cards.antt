@@ -3,7 +3,7 @@ use Rattle.std.specs.Prelude.{◌≡◌, ℕ, zero, suc, ◌+◌, cond, ◌&&◌
 use Rattle.algebra.specs.Algebra.{Field}
 use Rattle.rules.specs.Calls.{Answer, intake, done, refused}
 use Rattle.rules.specs.Promises.{Promise}
-use Rattle.rules.specs.States.{State, k, p, n, m, symbol-at}
+use Rattle.rules.specs.States.{State, k, p, n, m, symbol_at}
 use Rattle.reports.specs.declared.cards.Cards.{Cards}
 use Rattle.reports.specs.declared.cards.Outcome.{Outcome}
 use Rattle.reports.specs.declared.cards.Outcome.TheVariants.{Taken, Refused}
@@ -15,29 +15,29 @@ listed (suc count) x = x 0 ∷ listed count (λ i. x (suc i))
 
 module _ {A : Type 0} (F : Field A) (s : State A) where
   -- the number of a component of a row's card, and 0 where there is none
-  abbrev pub component-number : ℕ → ℕ → ℕ
-  component-number row c = cond (nat_lt row (k s + p s) && nat_lt c (m s)) (F.number (symbol-at F s row (n s + c))) 0
+  abbrev pub component_number : ℕ → ℕ → ℕ
+  component_number row c = cond (nat_lt row (k s + p s) && nat_lt c (m s)) (F.number (symbol_at F s row (n s + c))) 0
 
   -- A table has room for 68 cards of 8 components, which no tray that fits exceeds.
-  abbrev pub cards-of : Cards
-  cards-of = record { rows = k s + p s; components = m s; cards = listed 68 (λ row. record { numbers = listed 8 (component-number row) }) }
+  abbrev pub cards_of : Cards
+  cards_of = record { rows = k s + p s; components = m s; cards = listed 68 (λ row. record { numbers = listed 8 (component_number row) }) }
 
 -- the numbers of a row's components in such a table, and none beyond it
 abbrev pub numbers_of : Cards → ℕ → List ℕ
 numbers_of t row = take (min t.components 8) (slice_index_or t.cards row (record { numbers = [] })).numbers
 
-abbrev pub outcome-answer : {A : Type 0} → Outcome → Answer A
-outcome-answer (Taken cards) = done
-outcome-answer (Refused r) = refused r
+abbrev pub outcome_answer : {A : Type 0} → Outcome → Answer A
+outcome_answer (Taken cards) = done
+outcome_answer (Refused r) = refused r
 
 module _ {A : Type 0} (F : Field A) where
   -- the cards told are those that stand in the state after
   abbrev pub OutcomeCards : State A → Outcome → Type 0
-  OutcomeCards after (Taken cards) = cards ≡ cards-of F after
+  OutcomeCards after (Taken cards) = cards ≡ cards_of F after
   OutcomeCards after (Refused r) = Unit {0}
 
   -- An outcome of intake in a state: what the call's promise answers, and the cards that it leaves.
-  pub record Outcome-of (s : State A) (o : Outcome) : Type 0 where
+  pub record OutcomeOf (s : State A) (o : Outcome) : Type 0 where
     pub after : State A
-    pub promise : Promise F s intake (outcome-answer o) after
+    pub promise : Promise F s intake (outcome_answer o) after
     pub cards : OutcomeCards after o

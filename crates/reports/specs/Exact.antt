@@ -2,19 +2,19 @@
 -- the signature of the row's block in the image.
 use Rattle.std.specs.Prelude.{◌≡◌, ℕ, ◌+◌, ◌<◌, ◌↔◌, List}
 use Rattle.algebra.specs.Algebra.{Field}
-use Rattle.byte_field.specs.Meaning.{byte-algebra, byte-meaning}
-use Rattle.counter_field.specs.Meaning.{counter-algebra, counter-meaning}
+use Rattle.byte_field.specs.Meaning.{byte_algebra, byte_meaning}
+use Rattle.counter_field.specs.Meaning.{counter_algebra, counter_meaning}
 use Rattle.images.specs.declared.FieldKind.{FieldKind}
 use Rattle.images.specs.declared.FieldKind.TheVariants.{Byte, Counter}
 use Rattle.images.specs.declared.Head.{Head}
-use Rattle.image_shelves.specs.Fields.{byte-image, counter-image}
+use Rattle.image_shelves.specs.Fields.{byte_image, counter_image}
 use Rattle.rules.specs.Codes.{component}
 use Rattle.rules.specs.Exact.{Acceptable}
-use Rattle.rules.specs.States.{State, k, p, n, m, symbol-at}
+use Rattle.rules.specs.States.{State, k, p, n, m, symbol_at}
 use Rattle.rules.specs.Views.{seen}
 use Rattle.rules.specs.declared.Sizes.{Sizes}
 use Rattle.reports.specs.Cards.{listed, numbers_of}
-use Rattle.reports.specs.Report.{sizes-of}
+use Rattle.reports.specs.Report.{head_sizes}
 use Rattle.reports.specs.declared.Report.{Report}
 use Rattle.reports.specs.declared.Report.TheVariants.{Tray}
 use Rattle.reports.specs.declared.cards.Cards.{Cards}
@@ -23,17 +23,17 @@ use Rattle.reports.specs.declared.cards.Outcome.TheVariants.{Taken}
 
 module _ {A : Type 0} (F : Field A) (s : State A) where
   -- the numbers of the signature of a row's block
-  abbrev pub signature-numbers : ℕ → List ℕ
-  signature-numbers row = listed (m s) (λ c. F.number (component F (n s) (symbol-at F s row) c))
+  abbrev pub signature_numbers : ℕ → List ℕ
+  signature_numbers row = listed (m s) (λ c. F.number (component F (n s) (symbol_at F s row) c))
 
   pub record OutcomeExact (o : Outcome) : Type 0 where
     pub taken : ((cards : Cards) × (o ≡ Taken cards)) ↔ Acceptable F s
     pub rows : (cards : Cards) → o ≡ Taken cards → cards.rows ≡ k s + p s
-    pub cards : (cards : Cards) → o ≡ Taken cards → (row : ℕ) → row < k s + p s → numbers_of cards row ≡ signature-numbers row
+    pub cards : (cards : Cards) → o ≡ Taken cards → (row : ℕ) → row < k s + p s → numbers_of cards row ≡ signature_numbers row
 
 abbrev pub ImageExact : FieldKind → Sizes → List ℕ → Outcome → Type 0
-ImageExact Byte sizes bytes o = OutcomeExact byte-algebra (seen byte-meaning sizes (byte-image bytes)) o
-ImageExact Counter sizes bytes o = OutcomeExact counter-algebra (seen counter-meaning sizes (counter-image bytes)) o
+ImageExact Byte sizes bytes o = OutcomeExact byte_algebra (seen byte_meaning sizes (byte_image bytes)) o
+ImageExact Counter sizes bytes o = OutcomeExact counter_algebra (seen counter_meaning sizes (counter_image bytes)) o
 
 abbrev pub ReportExact : List ℕ → Report → Type 0
-ReportExact bytes report = (h : Head) (o : Outcome) → report ≡ Tray h o → ImageExact h.field (sizes-of h) bytes o
+ReportExact bytes report = (h : Head) (o : Outcome) → report ≡ Tray h o → ImageExact h.field (head_sizes h) bytes o

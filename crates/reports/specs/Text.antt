@@ -1,16 +1,16 @@
 -- The text that takein prints, without the last line's end.
 use Rattle.std.specs.Prelude.{ℕ, zero, suc, List, [], ◌∷◌, ◌++◌, min, codes, decimal, flat_map}
 use Rattle.images.specs.declared.Head.{Head}
-use Rattle.images.specs.Image.{field-number}
+use Rattle.images.specs.Image.{field_number}
 use Rattle.rules.specs.Calls.{returned}
-use Rattle.rules.specs.Text.{spaced, numbers-text}
+use Rattle.rules.specs.Text.{spaced, numbers_text}
 use Rattle.reports.specs.declared.cards.Cards.{Cards}
 use Rattle.reports.specs.declared.cards.Outcome.{Outcome}
 use Rattle.reports.specs.declared.cards.Outcome.TheVariants.{Taken, Refused}
 use Rattle.reports.specs.declared.Report.{Report}
 use Rattle.reports.specs.declared.Report.TheVariants.{NoImage, Tray}
 use Rattle.reports.specs.Cards.{numbers_of}
-use Rattle.reports.specs.Report.{input-refusal-number}
+use Rattle.reports.specs.Report.{input_refusal_number}
 
 -- text 0, .., text (count - 1), each behind the end of the line before
 abbrev pub lines : (count : ℕ) → (ℕ → List ℕ) → List ℕ
@@ -18,21 +18,21 @@ lines zero text = []
 lines (suc count) text = lines count text ++ (10 ∷ text count)
 
 -- the number of a row, and the numbers of its card
-abbrev pub card-text : ℕ → List ℕ → List ℕ
-card-text row numbers = codes "row " ++ (decimal row ++ (codes " card" ++ flat_map spaced numbers))
+abbrev pub card_text : ℕ → List ℕ → List ℕ
+card_text row numbers = codes "row " ++ (decimal row ++ (codes " card" ++ flat_map spaced numbers))
 
 -- one line for each row; the table has 68
-abbrev pub cards-text : Cards → List ℕ
-cards-text t = lines (min t.rows 68) (λ row. card-text row (numbers_of t row))
+abbrev pub cards_text : Cards → List ℕ
+cards_text t = lines (min t.rows 68) (λ row. card_text row (numbers_of t row))
 
-abbrev pub outcome-text : Outcome → List ℕ
-outcome-text (Taken cards) = codes "intake taken" ++ cards-text cards
-outcome-text (Refused r) = codes "intake refused " ++ numbers-text (returned r)
+abbrev pub outcome_text : Outcome → List ℕ
+outcome_text (Taken cards) = codes "intake taken" ++ cards_text cards
+outcome_text (Refused r) = codes "intake refused " ++ numbers_text (returned r)
 
 -- the field number, k, p, n and m: n stands before m here, and after it in the head
-abbrev pub head-text : Head → List ℕ
-head-text h = codes "tray" ++ (spaced (field-number h.field) ++ (spaced h.data_rows ++ (spaced h.parity_rows ++ (spaced h.block_length ++ spaced h.card_length))))
+abbrev pub head_text : Head → List ℕ
+head_text h = codes "tray" ++ (spaced (field_number h.field) ++ (spaced h.data_rows ++ (spaced h.parity_rows ++ (spaced h.block_length ++ spaced h.card_length))))
 
-abbrev pub report-text : Report → List ℕ
-report-text (NoImage r) = codes "image refused" ++ spaced (input-refusal-number r)
-report-text (Tray h o) = head-text h ++ (10 ∷ outcome-text o)
+abbrev pub report_text : Report → List ℕ
+report_text (NoImage r) = codes "image refused" ++ spaced (input_refusal_number r)
+report_text (Tray h o) = head_text h ++ (10 ∷ outcome_text o)

@@ -1,7 +1,7 @@
 // Intake of a new tray over any shelf, and the cards that it leaves, by their numbers.
 
 ghost use Rattle.std.specs.Prelude.{◌≡◌, ◌+◌, ◌<◌, ◌≤◌};
-ghost use Rattle.reports.specs.Cards.{cards-of, numbers_of, listed, component-number, Outcome-of};
+ghost use Rattle.reports.specs.Cards.{cards_of, numbers_of, listed, component_number, OutcomeOf};
 ghost use Rattle.rules.specs.Views.{seen};
 
 use algebra::Field;
@@ -47,7 +47,7 @@ pub enum Outcome {
 fn read_card<S: Shelf>(shelf: &S, sizes: Sizes, row: usize) -> Card
 where
     S::Symbol: Field,
-    ensures { row < sizes.data_rows + sizes.parity_rows → sizes.block_length ≤ 4096 → sizes.card_length ≤ 8 → result.numbers ≡ listed 8 (component-number S.Symbol.Field.algebra (seen S.Symbol.Field.meaning sizes (S.Shelf.contents shelf.now)) row) }
+    ensures { row < sizes.data_rows + sizes.parity_rows → sizes.block_length ≤ 4096 → sizes.card_length ≤ 8 → result.numbers ≡ listed 8 (component_number S.Symbol.Field.algebra (seen S.Symbol.Field.meaning sizes (S.Shelf.contents shelf.now)) row) }
 {
     let mut numbers = [0; 8];
     for c in 0..sizes.card_length.min(8) {
@@ -60,7 +60,7 @@ where
 fn read_cards<S: Shelf>(shelf: &S, sizes: Sizes) -> Cards
 where
     S::Symbol: Field,
-    ensures { sizes.data_rows ≤ 64 → sizes.parity_rows ≤ 4 → sizes.block_length ≤ 4096 → sizes.card_length ≤ 8 → result ≡ cards-of S.Symbol.Field.algebra (seen S.Symbol.Field.meaning sizes (S.Shelf.contents shelf.now)) }
+    ensures { sizes.data_rows ≤ 64 → sizes.parity_rows ≤ 4 → sizes.block_length ≤ 4096 → sizes.card_length ≤ 8 → result ≡ cards_of S.Symbol.Field.algebra (seen S.Symbol.Field.meaning sizes (S.Shelf.contents shelf.now)) }
 {
     let rows = sizes.data_rows.saturating_add(sizes.parity_rows);
     let mut cards = [Card { numbers: [0; 8] }; 68];
@@ -78,7 +78,7 @@ where
 pub fn take_in<S: Shelf + Drop>(shelf: S, sizes: Sizes) -> Outcome
 where
     S::Symbol: Field,
-    ensures { Outcome-of S.Symbol.Field.algebra (seen S.Symbol.Field.meaning sizes (S.Shelf.contents shelf)) result }
+    ensures { OutcomeOf S.Symbol.Field.algebra (seen S.Symbol.Field.meaning sizes (S.Shelf.contents shelf)) result }
 {
     let mut tray = Tray::over(shelf, sizes);
     match tray.intake() {

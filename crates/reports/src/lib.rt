@@ -3,7 +3,7 @@
 
 ghost use Rattle.std.specs.Prelude.{◌≡◌, Some};
 ghost use Rattle.reports.specs.Exact.{ReportExact};
-ghost use Rattle.reports.specs.Report.{input-refusal-number, sizes-of, ImageOutcome, Reported, OnlyReport};
+ghost use Rattle.reports.specs.Report.{input_refusal_number, head_sizes, ImageOutcome, Reported, OnlyReport};
 
 mod cards;
 mod text;
@@ -26,7 +26,7 @@ pub enum InputRefusal {
 
 impl InputRefusal {
     pub fn number(self) -> u8
-        ensures { result ≡ input-refusal-number self }
+        ensures { result ≡ input_refusal_number self }
     {
         match self {
             InputRefusal::TooLong => 24,
@@ -43,7 +43,7 @@ pub enum Report {
 
 // The sizes that an image's head says.
 fn sizes_of(head: &Head) -> Sizes
-    ensures { result ≡ sizes-of head.now }
+    ensures { result ≡ head_sizes head.now }
 {
     Sizes {
         data_rows: head.data_rows as usize,

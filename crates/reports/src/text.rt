@@ -2,7 +2,7 @@
 
 ghost use Rattle.std.specs.Fmt.{WritesOnOk};
 ghost use Rattle.std.specs.Prelude.{Some};
-ghost use Rattle.reports.specs.Text.{card-text, cards-text, outcome-text, head-text, report-text};
+ghost use Rattle.reports.specs.Text.{card_text, cards_text, outcome_text, head_text, report_text};
 
 use crate::{Cards, Outcome, Report};
 use images::Head;
@@ -14,7 +14,7 @@ fn write_card<W: fmt::Write>(
     row: usize,
     numbers: &[usize],
 ) -> fmt::Result
-    ensures { WritesOnOk W.write_str_gives f.old result (card-text row numbers.now) f.new }
+    ensures { WritesOnOk W.write_str_gives f.old result (card_text row numbers.now) f.new }
 {
     write!(f, "row {row} card")?;
     for number in numbers {
@@ -25,7 +25,7 @@ fn write_card<W: fmt::Write>(
 
 // A line for each row, behind the end of the line before.
 impl fmt::Display for Cards {
-    ghost output = { λ t. Some (cards-text t) };
+    ghost output = { λ t. Some (cards_text t) };
 
     fn fmt<W: fmt::Write>(&self, f: &mut fmt::Formatter<W>) -> fmt::Result {
         for row in 0..self.rows.min(68) {
@@ -37,7 +37,7 @@ impl fmt::Display for Cards {
 }
 
 impl fmt::Display for Outcome {
-    ghost output = { λ o. Some (outcome-text o) };
+    ghost output = { λ o. Some (outcome_text o) };
 
     fn fmt<W: fmt::Write>(&self, f: &mut fmt::Formatter<W>) -> fmt::Result {
         match self {
@@ -49,7 +49,7 @@ impl fmt::Display for Outcome {
 
 // The sizes of a good image.
 fn write_head<W: fmt::Write>(f: &mut fmt::Formatter<W>, head: &Head) -> fmt::Result
-    ensures { WritesOnOk W.write_str_gives f.old result (head-text head.now) f.new }
+    ensures { WritesOnOk W.write_str_gives f.old result (head_text head.now) f.new }
 {
     let kind = head.field.number();
     let k = head.data_rows;
@@ -60,7 +60,7 @@ fn write_head<W: fmt::Write>(f: &mut fmt::Formatter<W>, head: &Head) -> fmt::Res
 }
 
 impl fmt::Display for Report {
-    ghost output = { λ r. Some (report-text r) };
+    ghost output = { λ r. Some (report_text r) };
 
     fn fmt<W: fmt::Write>(&self, f: &mut fmt::Formatter<W>) -> fmt::Result {
         match self {

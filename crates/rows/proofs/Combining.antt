@@ -4,27 +4,27 @@ use Rattle.algebra.specs.Algebra.{Field}
 use Rattle.algebra.specs.Theorems.{coefficient}
 use Rattle.rules.specs.Codes.{combination, component, differ}
 use Rattle.rules.specs.States.{misfit}
-use Rattle.rules.specs.Views.{element-at, seen}
+use Rattle.rules.specs.Views.{element_at, seen}
 use Rattle.rules.specs.declared.Sizes.{Sizes}
 use Rattle.shelves.specs.Contents.{Contents}
 
-pub combination-more : {A : Type 0} (F : Field A) (count : ℕ) (column : ℕ → A) (i : ℕ)
+pub combination_more : {A : Type 0} (F : Field A) (count : ℕ) (column : ℕ → A) (i : ℕ)
     → F.add (combination F count column i) (F.mul (coefficient F i count) (column count)) ≡ combination F (count + 1) column i
-combination-more F count column i = rw (add-one count)
+combination_more F count column i = rw (add-one count)
 
 -- whether a parity row does not fit, from what a program compared
 module _ {X A : Type 0} (F : Field A) (meaning : X → A) (sizes : Sizes) (held : Contents X) where
-  pub misfit-is : (i start t place row : ℕ) (x y : A) (b : Bool) → place ≡ start + t → row ≡ sizes.data_rows + i
-      → x ≡ combination F sizes.data_rows (λ j. element-at F meaning held j place) i → y ≡ element-at F meaning held row place
+  pub misfit_is : (i start t place row : ℕ) (x y : A) (b : Bool) → place ≡ start + t → row ≡ sizes.data_rows + i
+      → x ≡ combination F sizes.data_rows (λ j. element_at F meaning held j place) i → y ≡ element_at F meaning held row place
       → b ≡ eqb (F.number x) (F.number y) → misfit F (seen meaning sizes held) i (start + t) ≡ not b
-  misfit-is i start t place row x y b there at xs ys e =
+  misfit_is i start t place row x y b there at xs ys e =
       ap (misfit F (seen meaning sizes held) i) (sym there)
-      ∙ sym (ap not (e ∙ ap₂ (λ (v w : ℕ). eqb v w) (ap F.number xs) (ap F.number (ys ∙ ap (λ r. element-at F meaning held r place) at))))
+      ∙ sym (ap not (e ∙ ap₂ (λ (v w : ℕ). eqb v w) (ap F.number xs) (ap F.number (ys ∙ ap (λ r. element_at F meaning held r place) at))))
 
   -- whether a component is wrong, from what a program compared
-  pub wrong-is : (row c place : ℕ) (x y : A) (b : Bool) → place ≡ sizes.block_length + c
-      → x ≡ component F sizes.block_length (element-at F meaning held row) c → y ≡ element-at F meaning held row place
+  pub wrong_is : (row c place : ℕ) (x y : A) (b : Bool) → place ≡ sizes.block_length + c
+      → x ≡ component F sizes.block_length (element_at F meaning held row) c → y ≡ element_at F meaning held row place
       → b ≡ eqb (F.number x) (F.number y)
-      → differ F (component F sizes.block_length (element-at F meaning held row) c) (element-at F meaning held row (sizes.block_length + c)) ≡ not b
-  wrong-is row c place x y b at xs ys e =
-      sym (ap not (e ∙ ap₂ (λ (v w : ℕ). eqb v w) (ap F.number xs) (ap F.number (ys ∙ ap (element-at F meaning held row) at))))
+      → differ F (component F sizes.block_length (element_at F meaning held row) c) (element_at F meaning held row (sizes.block_length + c)) ≡ not b
+  wrong_is row c place x y b at xs ys e =
+      sym (ap not (e ∙ ap₂ (λ (v w : ℕ). eqb v w) (ap F.number xs) (ap F.number (ys ∙ ap (element_at F meaning held row) at))))

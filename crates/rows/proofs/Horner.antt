@@ -4,7 +4,7 @@ use native.Mathlib.Nat.{sub_self}
 use Rattle.algebra.specs.Algebra.{Field, power}
 use Rattle.algebra.specs.Sum.{sum_to}
 use Rattle.algebra.proofs.Ring.{one-mul, mul_assoc}
-use Rattle.algebra.proofs.Sums.{sum_first, sum-mul, sum_below}
+use Rattle.algebra.proofs.Sums.{sum_first, sum_mul, sum_below}
 
 module _ {A : Type 0} (F : Field A) (n : ℕ) (symbols : ℕ → A) (point : A) where
   -- the part of the sum from place t on, divided by the t-th power
@@ -14,16 +14,16 @@ module _ {A : Type 0} (F : Field A) (n : ℕ) (symbols : ℕ → A) (point : A) 
   pub part_none : part n ≡ F.zer
   part_none = rw (sub_self n)
 
-  pub part-more : (t : ℕ) → 0 < t → t ≤ n → F.add (symbols (t - 1)) (F.mul point (part t)) ≡ part (t - 1)
-  part-more t h k =
+  pub part_more : (t : ℕ) → 0 < t → t ≤ n → F.add (symbols (t - 1)) (F.mul point (part t)) ≡ part (t - 1)
+  part_more t h k =
       let e : n - (t - 1) ≡ suc (n - t) = omega arith in
       let first : F.mul (power F point 0) (symbols (t - 1 + 0)) ≡ symbols (t - 1) = one-mul F _ ∙ ap symbols (add-zero (t - 1)) in
       let rest : sum_to F (n - t) (λ j. F.mul (power F point (suc j)) (symbols (t - 1 + suc j))) ≡ F.mul point (part t) =
       sum_below F (n - t) _ (λ j. F.mul point (F.mul (power F point j) (symbols (t + j)))) (λ j l. mul_assoc F _ _ _ ∙ (let s : t - 1 + suc j ≡ t + j = omega arith in ap (λ v. F.mul point (F.mul (power F point j) (symbols v))) s))
-      ∙ sum-mul F (n - t) point (λ j. F.mul (power F point j) (symbols (t + j))) in
+      ∙ sum_mul F (n - t) point (λ j. F.mul (power F point j) (symbols (t + j))) in
       sym (ap (λ v. sum_to F v (λ j. F.mul (power F point j) (symbols (t - 1 + j)))) e
       ∙ sum_first F (n - t) (λ j. F.mul (power F point j) (symbols (t - 1 + j)))
       ∙ ap₂ F.add first rest)
 
-  pub part-all : part 0 ≡ sum_to F n (λ j. F.mul (power F point j) (symbols j))
-  part-all = let e : n - 0 ≡ n = omega arith in rw e (sum_below F n _ _ (λ j l. ap (λ v. F.mul (power F point j) (symbols v)) (zero-add j)))
+  pub part_all : part 0 ≡ sum_to F n (λ j. F.mul (power F point j) (symbols j))
+  part_all = let e : n - 0 ≡ n = omega arith in rw e (sum_below F n _ _ (λ j l. ap (λ v. F.mul (power F point j) (symbols v)) (zero-add j)))

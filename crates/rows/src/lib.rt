@@ -3,16 +3,16 @@
 
 ghost use Rattle.std.specs.Prelude.{◌≡◌, ℕ, ◌+◌, ◌^◌, ◌<◌, ◌≤◌, true, not, length, map};
 ghost use Rattle.std.specs.Option.{option_map};
-ghost use Rattle.algebra.specs.Theorems.{coefficient as coefficient-of};
-ghost use Rattle.rules.specs.Codes.{component, combination as combination-of, differ};
-ghost use Rattle.rules.specs.Search.{lowest, lowest-pair};
+ghost use Rattle.algebra.specs.Theorems.{coefficient as coefficient_of};
+ghost use Rattle.rules.specs.Codes.{component, combination as combination_of, differ};
+ghost use Rattle.rules.specs.Search.{lowest, lowest_pair};
 ghost use Rattle.rules.specs.States.{audited, fits, misfit, sound};
 ghost use Rattle.rules.specs.Updates.{span};
-ghost use Rattle.rules.specs.Views.{element-at, seen};
-ghost use Rattle.shelves.specs.Contents.{is-hole};
+ghost use Rattle.rules.specs.Views.{element_at, seen};
+ghost use Rattle.shelves.specs.Contents.{is_hole};
 ghost use Rattle.rows.specs.Cards.{CardPut, CardsPut};
 ghost use Rattle.rows.specs.Weights.{Coefficients};
-ghost use Rattle.rules.specs.declared.Sizes.{Sizes as Sizes-of};
+ghost use Rattle.rules.specs.declared.Sizes.{Sizes as SizesOf};
 
 use algebra::Field;
 use rules::{Sizes, Verdict};
@@ -22,7 +22,7 @@ use shelves::{Got, Shelf};
 pub fn symbol_at<S: Shelf>(shelf: &S, row: usize, place: usize) -> S::Symbol
 where
     S::Symbol: Field,
-    ensures { S.Symbol.Field.meaning result ≡ element-at S.Symbol.Field.algebra S.Symbol.Field.meaning (S.Shelf.contents shelf.now) row place }
+    ensures { S.Symbol.Field.meaning result ≡ element_at S.Symbol.Field.algebra S.Symbol.Field.meaning (S.Shelf.contents shelf.now) row place }
 {
     match shelf.get(row, place) {
         Got::Symbol(symbol) => symbol,
@@ -39,7 +39,7 @@ pub fn fresh_component<S: Shelf>(
 ) -> S::Symbol
 where
     S::Symbol: Field,
-    ensures { S.Symbol.Field.meaning result ≡ component S.Symbol.Field.algebra block_length (element-at S.Symbol.Field.algebra S.Symbol.Field.meaning (S.Shelf.contents shelf.now) row) index }
+    ensures { S.Symbol.Field.meaning result ≡ component S.Symbol.Field.algebra block_length (element_at S.Symbol.Field.algebra S.Symbol.Field.meaning (S.Shelf.contents shelf.now) row) index }
 {
     let point: S::Symbol = algebra::power_of_alpha(index);
     let mut sum: S::Symbol = <S::Symbol>::zero();
@@ -62,7 +62,7 @@ pub fn element<F: Field>(number: usize) -> F
 
 // The coefficient of parity row i and data row j, where the field has their elements.
 pub fn coefficient<F: Field>(i: usize, j: usize) -> F
-    ensures { i < 4 → j < 64 → 4 + j < F.Field.algebra.size → F.Field.meaning result ≡ coefficient-of F.Field.algebra i j }
+    ensures { i < 4 → j < 64 → 4 + j < F.Field.algebra.size → F.Field.meaning result ≡ coefficient_of F.Field.algebra i j }
 {
     let column: F = element(j.saturating_add(4));
     let row: F = element(i);
@@ -93,7 +93,7 @@ pub fn combination<S: Shelf>(
 ) -> S::Symbol
 where
     S::Symbol: Field,
-    ensures { (i : ℕ) → data_rows ≤ 64 → Coefficients S.Symbol.Field.algebra i data_rows coefficients.now → S.Symbol.Field.meaning result ≡ combination-of S.Symbol.Field.algebra data_rows (λ j. element-at S.Symbol.Field.algebra S.Symbol.Field.meaning (S.Shelf.contents shelf.now) j place) i }
+    ensures { (i : ℕ) → data_rows ≤ 64 → Coefficients S.Symbol.Field.algebra i data_rows coefficients.now → S.Symbol.Field.meaning result ≡ combination_of S.Symbol.Field.algebra data_rows (λ j. element_at S.Symbol.Field.algebra S.Symbol.Field.meaning (S.Shelf.contents shelf.now) j place) i }
 {
     let mut sum: S::Symbol = <S::Symbol>::zero();
     for j in 0..data_rows.min(64) {
@@ -113,7 +113,7 @@ pub fn first_hole<S: Shelf>(
 ) -> Option<(usize, usize)>
 where
     S::Symbol: Field,
-    ensures { start + places < 2 ^ 64 → result ≡ lowest-pair rows places (λ row t. is-hole ((S.Shelf.contents shelf.now).at row (start + t))) }
+    ensures { start + places < 2 ^ 64 → result ≡ lowest_pair rows places (λ row t. is_hole ((S.Shelf.contents shelf.now).at row (start + t))) }
 {
     let mut found = None;
     'rows: for row in 0..rows {
@@ -140,7 +140,7 @@ pub fn first_misfit<S: Shelf>(
 ) -> Option<(usize, usize)>
 where
     S::Symbol: Field,
-    ensures { start + places < 2 ^ 64 → fits S.Symbol.Field.algebra (seen S.Symbol.Field.meaning sizes (S.Shelf.contents shelf.now)) ≡ true → result ≡ lowest-pair sizes.parity_rows places (λ i t. misfit S.Symbol.Field.algebra (seen S.Symbol.Field.meaning sizes (S.Shelf.contents shelf.now)) i (start + t)) }
+    ensures { start + places < 2 ^ 64 → fits S.Symbol.Field.algebra (seen S.Symbol.Field.meaning sizes (S.Shelf.contents shelf.now)) ≡ true → result ≡ lowest_pair sizes.parity_rows places (λ i t. misfit S.Symbol.Field.algebra (seen S.Symbol.Field.meaning sizes (S.Shelf.contents shelf.now)) i (start + t)) }
 {
     let mut found = None;
     'rows: for i in 0..sizes.parity_rows {
@@ -161,7 +161,7 @@ where
 fn lowest_hole<S: Shelf>(shelf: &S, row: usize, places: usize) -> Option<usize>
 where
     S::Symbol: Field,
-    ensures { result ≡ lowest places (λ place. is-hole ((S.Shelf.contents shelf.now).at row place)) }
+    ensures { result ≡ lowest places (λ place. is_hole ((S.Shelf.contents shelf.now).at row place)) }
 {
     for place in 0..places {
         match shelf.get(row, place) {
@@ -176,7 +176,7 @@ where
 fn lowest_wrong_component<S: Shelf>(shelf: &S, sizes: Sizes, row: usize) -> Option<usize>
 where
     S::Symbol: Field,
-    ensures { sizes.block_length + sizes.card_length < 2 ^ 64 → result ≡ lowest sizes.card_length (λ c. differ S.Symbol.Field.algebra (component S.Symbol.Field.algebra sizes.block_length (element-at S.Symbol.Field.algebra S.Symbol.Field.meaning (S.Shelf.contents shelf.now) row) c) (element-at S.Symbol.Field.algebra S.Symbol.Field.meaning (S.Shelf.contents shelf.now) row (sizes.block_length + c))) }
+    ensures { sizes.block_length + sizes.card_length < 2 ^ 64 → result ≡ lowest sizes.card_length (λ c. differ S.Symbol.Field.algebra (component S.Symbol.Field.algebra sizes.block_length (element_at S.Symbol.Field.algebra S.Symbol.Field.meaning (S.Shelf.contents shelf.now) row) c) (element_at S.Symbol.Field.algebra S.Symbol.Field.meaning (S.Shelf.contents shelf.now) row (sizes.block_length + c))) }
 {
     for component in 0..sizes.card_length {
         let fresh = fresh_component(shelf, row, sizes.block_length, component);
@@ -222,7 +222,7 @@ where
 pub fn copy_span<S: Shelf>(shelf: &S, row: usize, start: usize, buffer: &mut [S::Symbol])
 where
     S::Symbol: Field,
-    ensures { start + length buffer.old < 2 ^ 64 → (sizes : Sizes-of) → map S.Symbol.Field.meaning buffer.new ≡ span S.Symbol.Field.algebra (seen S.Symbol.Field.meaning sizes (S.Shelf.contents shelf.now)) row start (length buffer.old) }
+    ensures { start + length buffer.old < 2 ^ 64 → (sizes : SizesOf) → map S.Symbol.Field.meaning buffer.new ≡ span S.Symbol.Field.algebra (seen S.Symbol.Field.meaning sizes (S.Shelf.contents shelf.now)) row start (length buffer.old) }
 {
     for (i, slot) in buffer.iter_mut().enumerate() {
         *slot = symbol_at(shelf, row, start.saturating_add(i));

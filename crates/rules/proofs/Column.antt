@@ -2,18 +2,18 @@
 use Rattle.std.proofs.Common.{◌≡◌, ℕ, ◌+◌, ◌<◌, ◌≤◌, Bool, true, false, cond, ◌&&◌, ltb, ◌≢◌, sym, ap, ◌∙◌, inl, inr, arith}
 use Rattle.std.proofs.lemmas.Bool.{cases_Bool, and_from, and_parts, lt-ltb, ltb-true}
 use Rattle.algebra.specs.Algebra.{Field}
-use Rattle.algebra.proofs.Ring.{add_comm, add-neg, mul-add, sub-add, mul-zero, sub-zero, sub-nonzero, factor-zero, mul_assoc, mul_left_comm, mul-inv}
+use Rattle.algebra.proofs.Ring.{add_comm, add-neg, mul-add, sub-add, mul-zero, sub-zero, sub_nonzero, factor_zero, mul_assoc, mul_left_comm, mul-inv}
 use Rattle.algebra.proofs.Sums.{sum_below, sum_same, sum-add}
 use Rattle.algebra.specs.Cauchy.{Points, row, solve}
-use Rattle.algebra.proofs.Cauchy.{cauchy-zero, cauchy-solved}
+use Rattle.algebra.proofs.Cauchy.{cauchy_zero, cauchy_solved}
 use Rattle.rules.specs.Codes.{combination}
 use Rattle.algebra.specs.Algebra.{minus}
 use Rattle.algebra.specs.Theorems.{coefficient}
 use Rattle.rules.specs.Search.{counted}
-use Rattle.rules.proofs.Counted.{counted-before, select, selected, select-rank, sum_selected}
+use Rattle.rules.proofs.Counted.{counted_before, select, selected, select_rank, sum_selected}
 
-elements-differ : {X : Type 0} (F : Field X) (i j : ℕ) → i < F.size → j < F.size → i ≢ j → F.element i ≢ F.element j
-elements-differ F i j h l ne e = ne (sym (F.number-element i h) ∙ ap F.number e ∙ F.number-element j l)
+elements_differ : {X : Type 0} (F : Field X) (i j : ℕ) → i < F.size → j < F.size → i ≢ j → F.element i ≢ F.element j
+elements_differ F i j h l ne e = ne (sym (F.number_element i h) ∙ ap F.number e ∙ F.number_element j l)
 
 module _ {X : Type 0} (F : Field X) (k p : ℕ) (size : k + 4 ≤ F.size) (four : p ≤ 4) (bad good : ℕ → Bool) (enough : counted k bad ≤ counted p good) where
   infixl 70 ◌⊙◌
@@ -36,18 +36,18 @@ module _ {X : Type 0} (F : Field X) (k p : ℕ) (size : k + 4 ≤ F.size) (four 
   points : Points (counted k bad) a b
   points = record {
     rows = λ i j h l ne. let s = selected p good i (omega arith) in let t = selected p good j (omega arith) in
-        elements-differ F _ _ (omega (arith, s.below)) (omega (arith, t.below)) (λ e. ne (sym s.rank ∙ ap (λ x. counted x good) e ∙ t.rank));
+        elements_differ F _ _ (omega (arith, s.below)) (omega (arith, t.below)) (λ e. ne (sym s.rank ∙ ap (λ x. counted x good) e ∙ t.rank));
     columns = λ i j h l ne. let s = selected k bad i h in let t = selected k bad j l in
-        elements-differ F _ _ (omega (arith, s.below)) (omega (arith, t.below)) (λ e. ne (sym s.rank ∙ ap (λ x. counted x bad) (omega arith) ∙ t.rank));
+        elements_differ F _ _ (omega (arith, s.below)) (omega (arith, t.below)) (λ e. ne (sym s.rank ∙ ap (λ x. counted x bad) (omega arith) ∙ t.rank));
     apart = λ i j h l. let s = selected p good i (omega arith) in let t = selected k bad j l in
-        elements-differ F _ _ (omega (arith, s.below)) (omega (arith, t.below)) (omega (arith, s.below));
+        elements_differ F _ _ (omega (arith, s.below)) (omega (arith, t.below)) (omega (arith, s.below));
   }
 
-  w-nonzero : (j : ℕ) → j < k → w j ≢ 𝟘
-  w-nonzero j h = sub-nonzero F _ _ (elements-differ F 0 (4 + j) (omega arith) (omega arith) (omega arith))
+  w_nonzero : (j : ℕ) → j < k → w j ≢ 𝟘
+  w_nonzero j h = sub_nonzero F _ _ (elements_differ F 0 (4 + j) (omega arith) (omega arith) (omega arith))
 
-  needed-selected : (i : ℕ) → i < counted k bad → needed (select p good i) ≡ true
-  needed-selected i h = let s = selected p good i (omega arith) in and_from _ _ s.passes (lt-ltb _ _ (omega (arith, s.rank)))
+  needed_selected : (i : ℕ) → i < counted k bad → needed (select p good i) ≡ true
+  needed_selected i h = let s = selected p good i (omega arith) in and_from _ _ s.passes (lt-ltb _ _ (omega (arith, s.rank)))
 
   -- A column that is zero at the rows that are not bad, through the system of the others.
   narrow : (δ : ℕ → X) → ((j : ℕ) → j < k → bad j ≡ false → δ j ≡ 𝟘) → (i : ℕ)
@@ -56,9 +56,9 @@ module _ {X : Type 0} (F : Field X) (k p : ℕ) (size : k + 4 ≤ F.size) (four 
       sum_selected F k bad _ (λ j h e. ap (λ x. coefficient F i j ⊙ x) (off j h e) ∙ mul-zero F _)
       ∙ sum_below F _ _ _ (λ t h. simp (mul_assoc, mul_left_comm))
 
-  pub column-unique : (x y : ℕ → X) → ((j : ℕ) → j < k → bad j ≡ false → x j ≡ y j)
+  pub column_unique : (x y : ℕ → X) → ((j : ℕ) → j < k → bad j ≡ false → x j ≡ y j)
       → ((i : ℕ) → i < p → needed i ≡ true → combination F k x i ≡ combination F k y i) → (j : ℕ) → j < k → x j ≡ y j
-  column-unique x y same fit j h = elim (cases_Bool (bad j)) [ inl e ↦ sub-zero F _ _ (rw (select-rank k bad j h e) at (gone (counted j bad) (counted-before j k bad h e))) | inr e ↦ same j h e ]
+  column_unique x y same fit j h = elim (cases_Bool (bad j)) [ inl e ↦ sub-zero F _ _ (rw (select_rank k bad j h e) at (gone (counted j bad) (counted_before j k bad h e))) | inr e ↦ same j h e ]
     where
       δ : ℕ → X
       δ j = minus F (x j) (y j)
@@ -66,38 +66,38 @@ module _ {X : Type 0} (F : Field X) (k p : ℕ) (size : k + 4 ≤ F.size) (four 
       zeros : (i : ℕ) → i < counted k bad → row F (counted k bad) b (λ t. w (select k bad t) ⊙ δ (select k bad t)) (a i) ≡ 𝟘
       zeros i h =
           sym (narrow δ (λ j l e. ap (λ z. minus F z (y j)) (same j l e) ∙ add-neg F _) (select p good i))
-          ∙ sum_same F k (coefficient F (select p good i)) x y (fit (select p good i) (selected p good i (omega arith)).below (needed-selected i h))
+          ∙ sum_same F k (coefficient F (select p good i)) x y (fit (select p good i) (selected p good i (omega arith)).below (needed_selected i h))
 
       gone : (t : ℕ) → t < counted k bad → δ (select k bad t) ≡ 𝟘
-      gone t l = factor-zero F _ _ (w-nonzero _ (selected k bad t l).below) (cauchy-zero F (counted k bad) a b _ points zeros t l)
+      gone t l = factor_zero F _ _ (w_nonzero _ (selected k bad t l).below) (cauchy_zero F (counted k bad) a b _ points zeros t l)
 
   -- data symbols v kept where they are not bad, and the others found from the needed parity symbols u
   module _ (v u : ℕ → X) where
-    abbrev good-part : ℕ → X
-    good-part j = cond (bad j) 𝟘 (v j)
+    abbrev good_part : ℕ → X
+    good_part j = cond (bad j) 𝟘 (v j)
 
     abbrev wanted : ℕ → X
-    wanted i = minus F (u (select p good i)) (combination F k good-part (select p good i))
+    wanted i = minus F (u (select p good i)) (combination F k good_part (select p good i))
 
-    abbrev bad-part : ℕ → X
-    bad-part j = cond (bad j) (inv (w j) ⊙ solve F (counted k bad) a b wanted (counted j bad)) 𝟘
+    abbrev bad_part : ℕ → X
+    bad_part j = cond (bad j) (inv (w j) ⊙ solve F (counted k bad) a b wanted (counted j bad)) 𝟘
 
     pub column : ℕ → X
-    column j = F.add (good-part j) (bad-part j)
+    column j = F.add (good_part j) (bad_part j)
 
-    pub column-kept : (j : ℕ) → bad j ≡ false → column j ≡ v j
+    pub column_kept : (j : ℕ) → bad j ≡ false → column j ≡ v j
     unfolding column
-    column-kept j e = rw (column, e) (F.add-zero _)
+    column_kept j e = rw (column, e) (F.add-zero _)
 
-    bad-solved : (t : ℕ) → t < counted k bad → w (select k bad t) ⊙ bad-part (select k bad t) ≡ solve F (counted k bad) a b wanted t
-    bad-solved t h = let s = selected k bad t h in rw (s.passes, s.rank) (mul-inv F _ (w-nonzero _ s.below) _)
+    bad_solved : (t : ℕ) → t < counted k bad → w (select k bad t) ⊙ bad_part (select k bad t) ≡ solve F (counted k bad) a b wanted t
+    bad_solved t h = let s = selected k bad t h in rw (s.passes, s.rank) (mul-inv F _ (w_nonzero _ s.below) _)
 
-    solved-at : (t : ℕ) → t < counted k bad → combination F k column (select p good t) ≡ u (select p good t)
+    solved_at : (t : ℕ) → t < counted k bad → combination F k column (select p good t) ≡ u (select p good t)
     unfolding column
-    solved-at t h =
+    solved_at t h =
         sum_below F k _ _ (λ j l. mul-add F _ _ _) ∙ sum-add F k _ _
-        ∙ ap (F.add _) (narrow bad-part (λ j l e. rw e) _ ∙ sum_below F (counted k bad) _ _ (λ r l. ap (F.mul _) (bad-solved r l)) ∙ cauchy-solved F (counted k bad) a b wanted points t h)
+        ∙ ap (F.add _) (narrow bad_part (λ j l e. rw e) _ ∙ sum_below F (counted k bad) _ _ (λ r l. ap (F.mul _) (bad_solved r l)) ∙ cauchy_solved F (counted k bad) a b wanted points t h)
         ∙ add_comm F _ _ ∙ sub-add F _ _
 
-    pub column-solved : (i : ℕ) → i < p → needed i ≡ true → combination F k column i ≡ u i
-    column-solved i h e = let n = and_parts _ _ e in rw (select-rank p good i h n.0) at (solved-at (counted i good) (ltb-true _ _ n.1))
+    pub column_solved : (i : ℕ) → i < p → needed i ≡ true → combination F k column i ≡ u i
+    column_solved i h e = let n = and_parts _ _ e in rw (select_rank p good i h n.0) at (solved_at (counted i good) (ltb-true _ _ n.1))

@@ -1,6 +1,6 @@
 -- How many numbers below a bound pass a test, and which is the r-th of them.
 use Rattle.std.proofs.Common.{◌≡◌, ℕ, zero, suc, ◌+◌, ◌<◌, ◌≤◌, Bool, true, false, cond, not, ◌&&◌, eqb, ◌⊎◌, List, [], ◌∷◌, length, sym, refl, ap, ◌∙◌, ap₂, inl, inr, add-zero, add-suc, arith}
-use mathlib.Core.List.Memᴰ.{cases_cons as cases-in}
+use mathlib.Core.List.Memᴰ.{cases_cons as cases_in}
 use mathlib.Core.List.Memᴰ.{head as here}
 use mathlib.Core.List.Memᴰ.{not-nil as none_in}
 use mathlib.Core.List.Memᴰ.{tail as later}
@@ -9,20 +9,20 @@ use native.Mathlib.Decide.{ℕ_discrete}
 use Rattle.std.proofs.lemmas.Bool.{cases_Bool, cases_order, and_parts, and_cases, not-true, both_ways, ne_eqb, eqb-true, eqb-false, eq-eqb}
 use Rattle.rules.specs.Search.{counted}
 use Rattle.algebra.specs.Algebra.{Field}
-use Rattle.algebra.proofs.Ring.{add-zero as add-𝟘}
+use Rattle.algebra.proofs.Ring.{add-zero as add_𝟘}
 use Rattle.algebra.specs.Sum.{sum_to}
 use Rattle.algebra.proofs.Sums.{sum_below}
 
-counted-here : (n : ℕ) (test : ℕ → Bool) → test n ≡ true → counted (suc n) test ≡ counted n test + 1
-counted-here n test e = rw e
+counted_here : (n : ℕ) (test : ℕ → Bool) → test n ≡ true → counted (suc n) test ≡ counted n test + 1
+counted_here n test e = rw e
 
 counted_skip : (n : ℕ) (test : ℕ → Bool) → test n ≡ false → counted (suc n) test ≡ counted n test
 counted_skip n test e = rw e (omega arith)
 
 -- 1 where a test passes
-one-if : (b : Bool) → cond b 1 0 ≤ 1
-one-if true = omega arith
-one-if false = omega arith
+one_if : (b : Bool) → cond b 1 0 ≤ 1
+one_if true = omega arith
+one_if false = omega arith
 
 one_of : (b : Bool) → cond b 1 0 + cond (not b) 1 0 ≡ 1
 one_of true = refl
@@ -36,37 +36,37 @@ pub counted_none : (n : ℕ) (test : ℕ → Bool) → ((i : ℕ) → i < n → 
 counted_none zero test e = refl
 counted_none (suc n) test e = counted_skip n test (e n (omega arith)) ∙ counted_none n test (λ i h. e i (omega arith))
 
-pub counted-not : (n : ℕ) (test : ℕ → Bool) → counted n test + counted n (λ i. not (test i)) ≡ n
-counted-not zero test = refl
-counted-not (suc n) test = omega (arith, counted-not n test, one_of (test n))
+pub counted_not : (n : ℕ) (test : ℕ → Bool) → counted n test + counted n (λ i. not (test i)) ≡ n
+counted_not zero test = refl
+counted_not (suc n) test = omega (arith, counted_not n test, one_of (test n))
 
-pub counted-add : (m n : ℕ) (test : ℕ → Bool) → counted (m + n) test ≡ counted m test + counted n (λ i. test (m + i))
-counted-add m zero test = rw (add-zero m) (omega arith)
-counted-add m (suc n) test = rw add-suc (omega (arith, counted-add m n test))
+pub counted_add : (m n : ℕ) (test : ℕ → Bool) → counted (m + n) test ≡ counted m test + counted n (λ i. test (m + i))
+counted_add m zero test = rw (add-zero m) (omega arith)
+counted_add m (suc n) test = rw add-suc (omega (arith, counted_add m n test))
 
-counted-mono : (m n : ℕ) (test : ℕ → Bool) → m ≤ n → counted m test ≤ counted n test
-counted-mono m zero test h = let e : m ≡ 0 = omega arith in rw e (omega arith)
-counted-mono m (suc n) test h = elim (ℕ_discrete m (suc n)) [ yes e ↦ rw e (omega arith) | no ne ↦ omega (arith, counted-mono m n test (omega arith)) ]
+counted_mono : (m n : ℕ) (test : ℕ → Bool) → m ≤ n → counted m test ≤ counted n test
+counted_mono m zero test h = let e : m ≡ 0 = omega arith in rw e (omega arith)
+counted_mono m (suc n) test h = elim (ℕ_discrete m (suc n)) [ yes e ↦ rw e (omega arith) | no ne ↦ omega (arith, counted_mono m n test (omega arith)) ]
 
-pub counted-before : (i n : ℕ) (test : ℕ → Bool) → i < n → test i ≡ true → counted i test < counted n test
-counted-before i n test h e = omega (arith, counted-mono (suc i) n test h, counted-here i test e)
+pub counted_before : (i n : ℕ) (test : ℕ → Bool) → i < n → test i ≡ true → counted i test < counted n test
+counted_before i n test h e = omega (arith, counted_mono (suc i) n test h, counted_here i test e)
 
 -- the numbers below n that pass
 abbrev pub passing : ℕ → (ℕ → Bool) → List ℕ
 passing zero test = []
 passing (suc n) test = cond (test n) (n ∷ passing n test) (passing n test)
 
-pub length-passing : (n : ℕ) (test : ℕ → Bool) → length (passing n test) ≡ counted n test
-length-passing zero test = refl
-length-passing (suc n) test =
-    elim (cases_Bool (test n)) [ inl e ↦ rw e (omega (arith, length-passing n test)) | inr e ↦ rw e (omega (arith, length-passing n test)) ]
+pub length_passing : (n : ℕ) (test : ℕ → Bool) → length (passing n test) ≡ counted n test
+length_passing zero test = refl
+length_passing (suc n) test =
+    elim (cases_Bool (test n)) [ inl e ↦ rw e (omega (arith, length_passing n test)) | inr e ↦ rw e (omega (arith, length_passing n test)) ]
 
-pub in-passing : (n : ℕ) (test : ℕ → Bool) (i : ℕ) → i < n → test i ≡ true → In i (passing n test)
-in-passing zero test i h e = absurd (omega arith)
-in-passing (suc n) test i h e =
+pub in_passing : (n : ℕ) (test : ℕ → Bool) (i : ℕ) → i < n → test i ≡ true → In i (passing n test)
+in_passing zero test i h e = absurd (omega arith)
+in_passing (suc n) test i h e =
     elim (ℕ_discrete i n) [
       | yes at ↦ rw (← at, e) (here refl)
-      | no ne ↦ go (test n) (in-passing n test i (omega arith) e)
+      | no ne ↦ go (test n) (in_passing n test i (omega arith) e)
     ]
   where
     go : (b : Bool) → In i (passing n test) → In i (cond b (n ∷ passing n test) (passing n test))
@@ -77,29 +77,29 @@ in-passing (suc n) test i h e =
 abbrev without : ℕ → (ℕ → Bool) → ℕ → Bool
 without t test i = test i && not (eqb i t)
 
-without-same : (t : ℕ) (test : ℕ → Bool) (i : ℕ) → (i ≡ t → ⊥) → without t test i ≡ test i
-without-same t test i ne = rw (ne_eqb i t ne) (go (test i))
+without_same : (t : ℕ) (test : ℕ → Bool) (i : ℕ) → (i ≡ t → ⊥) → without t test i ≡ test i
+without_same t test i ne = rw (ne_eqb i t ne) (go (test i))
   where
     go : (b : Bool) → (b && true) ≡ b
     go true = refl
     go false = refl
 
-counted-without : (n t : ℕ) (test : ℕ → Bool) → counted n test ≤ counted n (without t test) + 1
-counted-without zero t test = omega arith
-counted-without (suc n) t test =
+counted_without : (n t : ℕ) (test : ℕ → Bool) → counted n test ≤ counted n (without t test) + 1
+counted_without zero t test = omega arith
+counted_without (suc n) t test =
     elim (ℕ_discrete n t) [
-      | yes e ↦ omega (arith, one-if (test n), counted_same n (without t test) test (λ i h. without-same t test i (omega arith)))
-      | no ne ↦ rw (without-same t test n ne) (omega (arith, counted-without n t test))
+      | yes e ↦ omega (arith, one_if (test n), counted_same n (without t test) test (λ i h. without_same t test i (omega arith)))
+      | no ne ↦ rw (without_same t test n ne) (omega (arith, counted_without n t test))
     ]
 
 -- If all that pass are in a list, they are no more than the list is long.
-pub counted-among : (rows : List ℕ) (n : ℕ) (test : ℕ → Bool) → ((i : ℕ) → i < n → test i ≡ true → In i rows) → counted n test ≤ length rows
-counted-among [] n test all = omega (arith, counted_none n test (λ i h. elim (cases_Bool (test i)) [ inl e ↦ absurd (none_in (all i h e)) | inr e ↦ e ]))
-counted-among (t ∷ rows) n test all = omega (arith, counted-without n t test, counted-among rows n (without t test) rest)
+pub counted_among : (rows : List ℕ) (n : ℕ) (test : ℕ → Bool) → ((i : ℕ) → i < n → test i ≡ true → In i rows) → counted n test ≤ length rows
+counted_among [] n test all = omega (arith, counted_none n test (λ i h. elim (cases_Bool (test i)) [ inl e ↦ absurd (none_in (all i h e)) | inr e ↦ e ]))
+counted_among (t ∷ rows) n test all = omega (arith, counted_without n t test, counted_among rows n (without t test) rest)
   where
     rest : (i : ℕ) → i < n → without t test i ≡ true → In i rows
     rest i h e =
-        elim (cases-in (all i h (and_parts _ _ e).0)) [
+        elim (cases_in (all i h (and_parts _ _ e).0)) [
           | inl at ↦ absurd (both_ways (eqb i t) (not-true _ (and_parts _ _ e).1) (eq-eqb i t at))
           | inr in_rows ↦ in_rows
         ]
@@ -125,22 +125,22 @@ selected (suc n) test r h = go _ refl (selected n test r)
         s : Selected n test r (select n test r)
         s = rest (elim (and_cases (test n) _ e) [
           | inl skip ↦ omega (arith, counted_skip n test skip)
-          | inr ne ↦ omega (arith, one-if (test n), eqb-false (counted n test) r ne)
+          | inr ne ↦ omega (arith, one_if (test n), eqb-false (counted n test) r ne)
         ])
 
 same_rank : (test : ℕ → Bool) (i j : ℕ) → test i ≡ true → test j ≡ true → counted i test ≡ counted j test → i ≡ j
 same_rank test i j e f same =
     elim (cases_order i j) [
       | inl eq ↦ eq
-      | inr (inl less) ↦ absurd (omega (arith, counted-before i j test less e))
-      | inr (inr more) ↦ absurd (omega (arith, counted-before j i test more f))
+      | inr (inl less) ↦ absurd (omega (arith, counted_before i j test less e))
+      | inr (inr more) ↦ absurd (omega (arith, counted_before j i test more f))
     ]
 
-pub select-rank : (n : ℕ) (test : ℕ → Bool) (i : ℕ) → i < n → test i ≡ true → select n test (counted i test) ≡ i
-select-rank n test i h e = let s = selected n test (counted i test) (counted-before i n test h e) in same_rank test _ i s.passes e s.rank
+pub select_rank : (n : ℕ) (test : ℕ → Bool) (i : ℕ) → i < n → test i ≡ true → select n test (counted i test) ≡ i
+select_rank n test i h e = let s = selected n test (counted i test) (counted_before i n test h e) in same_rank test _ i s.passes e s.rank
 
-select-more : (n : ℕ) (test : ℕ → Bool) (r : ℕ) → r < counted n test → select (suc n) test r ≡ select n test r
-select-more n test r h =
+select_more : (n : ℕ) (test : ℕ → Bool) (r : ℕ) → r < counted n test → select (suc n) test r ≡ select n test r
+select_more n test r h =
     let s = selected n test r h in
     let t = selected (suc n) test r (omega arith) in
     same_rank test _ _ t.passes s.passes (t.rank ∙ sym s.rank)
@@ -150,13 +150,13 @@ pub sum_selected : {A : Type 0} (F : Field A) (n : ℕ) (test : ℕ → Bool) (f
     → sum_to F n f ≡ sum_to F (counted n test) (λ r. f (select n test r))
 sum_selected {A} F zero test f off = refl
 sum_selected {A} F (suc n) test f off =
-    go (cases_Bool (test n)) (sum_selected F n test f (λ i h. off i (omega arith)) ∙ sum_below F (counted n test) _ _ λ r h. ap f (sym (select-more n test r h)))
+    go (cases_Bool (test n)) (sum_selected F n test f (λ i h. off i (omega arith)) ∙ sum_below F (counted n test) _ _ λ r h. ap f (sym (select_more n test r h)))
   where
     g : ℕ → A
     g r = f (select (suc n) test r)
 
     go : (test n ≡ true) ⊎ (test n ≡ false) → sum_to F n f ≡ sum_to F (counted n test) g → sum_to F (suc n) f ≡ sum_to F (counted (suc n) test) g
     go (inl e) rest =
-        let c : suc (counted n test) ≡ counted (suc n) test = omega (arith, counted-here n test e) in
-        ap₂ F.add rest (ap f (sym (select-rank (suc n) test n (omega arith) e))) ∙ ap (λ c. sum_to F c g) c
-    go (inr e) rest = ap₂ F.add rest (off n (omega arith) e) ∙ add-𝟘 F _ ∙ ap (λ c. sum_to F c g) (sym (counted_skip n test e))
+        let c : suc (counted n test) ≡ counted (suc n) test = omega (arith, counted_here n test e) in
+        ap₂ F.add rest (ap f (sym (select_rank (suc n) test n (omega arith) e))) ∙ ap (λ c. sum_to F c g) c
+    go (inr e) rest = ap₂ F.add rest (off n (omega arith) e) ∙ add_𝟘 F _ ∙ ap (λ c. sum_to F c g) (sym (counted_skip n test e))

@@ -7,7 +7,7 @@ use Rattle.rules.specs.Promises.{Promise, accepted, rejected}
 use Rattle.rules.specs.Twins.{overwritten, Takes, Follows, takes, stands, Run, GoesOn}
 use Rattle.rules.proofs.Answered.{answered}
 use Rattle.rules.proofs.Kept.{Kept}
-use Rattle.rules.proofs.Law.{none-if-taken, taken-if-none, run-kept}
+use Rattle.rules.proofs.Law.{none_if_taken, taken_if_none, run_kept}
 
 module _ {X : Type 0} (F : Field X) (blocks : ℕ → ℕ → X) (s : State X) (kept : Kept F blocks s) where
   -- a call that is no write
@@ -16,9 +16,9 @@ module _ {X : Type 0} (F : Field X) (blocks : ℕ → ℕ → X) (s : State X) (
 
   follows : (c : Call X) (answer : Answer X) (s' : State X) → Promise F s c answer s' → (blocks' : ℕ → ℕ → X) × Follows F blocks s c blocks'
   follows (write row start xs) _ _ (rejected r line lowest) =
-      (blocks, stands (λ row' start' xs' e t. none-if-taken F blocks s kept t r (rw e at line)))
+      (blocks, stands (λ row' start' xs' e t. none_if_taken F blocks s kept t r (rw e at line)))
   follows (write row start xs) _ _ (accepted none accepts) =
-      (overwritten blocks row start xs, takes row start xs refl (taken-if-none F blocks s kept none))
+      (overwritten blocks row start xs, takes row start xs refl (taken_if_none F blocks s kept none))
   follows fit answer s' promise = untold fit (λ row start xs e. let z : ◌≡◌ {A = ℕ} 0 1 = cc in omega arith)
   follows intake answer s' promise = untold intake (λ row start xs e. let z : ◌≡◌ {A = ℕ} 0 1 = cc in omega arith)
   follows cross answer s' promise = untold cross (λ row start xs e. let z : ◌≡◌ {A = ℕ} 0 1 = cc in omega arith)
@@ -31,5 +31,5 @@ module _ {X : Type 0} (F : Field X) (blocks : ℕ → ℕ → X) (s : State X) (
   follows (record_of r) answer s' promise = untold (record_of r) (λ row start xs e. let z : ◌≡◌ {A = ℕ} 0 1 = cc in omega arith)
   follows (read r f n) answer s' promise = untold (read r f n) (λ row start xs e. let z : ◌≡◌ {A = ℕ} 0 1 = cc in omega arith)
 
-pub goes-on : {X : Type 0} (F : Field X) → GoesOn F
-goes-on F blocks s run c answer s' promise = follows F blocks s (run-kept F run) c answer s' promise
+pub goes_on : {X : Type 0} (F : Field X) → GoesOn F
+goes_on F blocks s run c answer s' promise = follows F blocks s (run_kept F run) c answer s' promise

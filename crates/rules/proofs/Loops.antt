@@ -2,19 +2,19 @@
 use Rattle.std.proofs.Common.{◌≡◌, ℕ, zero, suc, ◌+◌, ◌<◌, ◌≤◌, Bool, true, false, List, length, Some, None, Option, refl, ap, inl, inr, arith}
 use Rattle.std.proofs.lemmas.Bool.{both_ways, cases_order, and_left, le-ltb}
 use Rattle.algebra.specs.Algebra.{Field}
-use Rattle.shelves.specs.Contents.{is-hole}
-use Rattle.rules.specs.Search.{lowest, lowest-pair}
+use Rattle.shelves.specs.Contents.{is_hole}
+use Rattle.rules.specs.Search.{lowest, lowest_pair}
 use Rattle.rules.specs.States.{State, k, p, n, m, cell, fits, audited}
-use Rattle.rules.specs.Calls.{read, Answer, buffer-after}
+use Rattle.rules.specs.Calls.{read, Answer, buffer_after}
 use Rattle.rules.specs.Updates.{span}
 use Rattle.rules.specs.Promises.{Promise, rejected, accepted, did_read}
 use Rattle.rules.specs.declared.Verdict.TheVariants.{Hole}
-use Rattle.rules.proofs.Found.{Found, FoundPair, found-lowest, found-lowest-pair}
+use Rattle.rules.proofs.Found.{Found, FoundPair, found_lowest, found_lowest_pair}
 use Rattle.rules.proofs.Rows.{fitting}
 
 -- a loop left at i
-pub lowest-at : (bound : ℕ) (test : ℕ → Bool) (i : ℕ) → i < bound → test i ≡ true → ((j : ℕ) → j < i → test j ≡ false) → lowest bound test ≡ Some i
-lowest-at bound test i h e none = go (lowest bound test) (found-lowest bound test)
+pub lowest_at : (bound : ℕ) (test : ℕ → Bool) (i : ℕ) → i < bound → test i ≡ true → ((j : ℕ) → j < i → test j ≡ false) → lowest bound test ≡ Some i
+lowest_at bound test i h e none = go (lowest bound test) (found_lowest bound test)
   where
     go : (o : Option ℕ) → Found test 0 bound o → o ≡ Some i
     go None f = absurd (both_ways _ (f i (omega arith) h) e)
@@ -27,9 +27,9 @@ lowest-at bound test i h e none = go (lowest bound test) (found-lowest bound tes
 
 -- two nested loops left at a row and a place, and two that ran to their end
 module _ (rows places : ℕ) (test : ℕ → ℕ → Bool) where
-  pub lowest-pair-at : (row place : ℕ) → row < rows → place < places → test row place ≡ true → ((t : ℕ) → t < place → test row t ≡ false)
-      → ((r t : ℕ) → r < row → t < places → test r t ≡ false) → lowest-pair rows places test ≡ Some (row, place)
-  lowest-pair-at row place h l e before above = go (lowest-pair rows places test) (found-lowest-pair rows places test)
+  pub lowest_pair_at : (row place : ℕ) → row < rows → place < places → test row place ≡ true → ((t : ℕ) → t < place → test row t ≡ false)
+      → ((r t : ℕ) → r < row → t < places → test r t ≡ false) → lowest_pair rows places test ≡ Some (row, place)
+  lowest_pair_at row place h l e before above = go (lowest_pair rows places test) (found_lowest_pair rows places test)
     where
       go : (o : Option (ℕ × ℕ)) → FoundPair test places 0 rows o → o ≡ Some (row, place)
       go None f = absurd (both_ways _ (f row (omega arith) h place l) e)
@@ -44,25 +44,25 @@ module _ (rows places : ℕ) (test : ℕ → ℕ → Bool) where
             | inr (inr more) ↦ absurd (both_ways _ (f.5 row (omega arith) more place l) e)
           ]
 
-  pub lowest-pair-nowhere : ((r t : ℕ) → r < rows → t < places → test r t ≡ false) → lowest-pair rows places test ≡ None
-  lowest-pair-nowhere none = go (lowest-pair rows places test) (found-lowest-pair rows places test)
+  pub lowest_pair_nowhere : ((r t : ℕ) → r < rows → t < places → test r t ≡ false) → lowest_pair rows places test ≡ None
+  lowest_pair_nowhere none = go (lowest_pair rows places test) (found_lowest_pair rows places test)
     where
       go : (o : Option (ℕ × ℕ)) → FoundPair test places 0 rows o → o ≡ None
       go None f = refl
       go (Some (r, t)) f = absurd (both_ways _ (none r t f.1 f.2) f.3)
 
 -- no run walks there, but a promise speaks of it
-pub beyond-verdict : {X : Type 0} (F : Field X) (s : State X) (row : ℕ) → fits F s ≡ true → k s + p s ≤ row → audited F s row ≡ Hole 0
-beyond-verdict F s row fit out =
+pub beyond_verdict : {X : Type 0} (F : Field X) (s : State X) (row : ℕ) → fits F s ≡ true → k s + p s ≤ row → audited F s row ≡ Hole 0
+beyond_verdict F s row fit out =
     let f = fitting F s fit in
-    rw (lowest-at (n s + m s) (λ place. is-hole (cell s row place)) 0 (omega arith)
+    rw (lowest_at (n s + m s) (λ place. is_hole (cell s row place)) 0 (omega arith)
     (s.contents.beyond row 0 (and_left _ _ (le-ltb row _ (omega (arith, f.rows))))) (λ j h. absurd (omega arith)))
 
-span-length : {X : Type 0} (F : Field X) (s : State X) (row start count : ℕ) → length (span F s row start count) ≡ count
-span-length F s row start zero = refl
-span-length F s row start (suc count) = ap suc (span-length F s row (start + 1) count)
+span_length : {X : Type 0} (F : Field X) (s : State X) (row start count : ℕ) → length (span F s row start count) ≡ count
+span_length F s row start zero = refl
+span_length F s row start (suc count) = ap suc (span_length F s row (start + 1) count)
 
-pub buffer-length : {X : Type 0} (F : Field X) (s s' : State X) (row start : ℕ) (old : List X) (answer : Answer X) → Promise F s (read row start (length old)) answer s'
-    → length (buffer-after old answer) ≡ length old
-buffer-length F s s' row start old answer (rejected r line none) = refl
-buffer-length F s s' row start old answer (accepted none (did_read _ _ _)) = span-length F s row start (length old)
+pub buffer_length : {X : Type 0} (F : Field X) (s s' : State X) (row start : ℕ) (old : List X) (answer : Answer X) → Promise F s (read row start (length old)) answer s'
+    → length (buffer_after old answer) ≡ length old
+buffer_length F s s' row start old answer (rejected r line none) = refl
+buffer_length F s s' row start old answer (accepted none (did_read _ _ _)) = span_length F s row start (length old)

@@ -4,11 +4,11 @@ use Rattle.std.proofs.lemmas.Bool.{both_ways, cases_eq, lt-ltb, le-ltb}
 use Rattle.std.proofs.lemmas.List.{get_or-set_same, get_or-set_other, length-set}
 use Rattle.algebra.specs.Algebra.{Field}
 use Rattle.rules.specs.Calls.{begin, step, totals, Answer, done, counts}
-use Rattle.rules.specs.Promises.{Promise, unfit, early, not-walking, not-over, rejected, accepted, did-begin, did-step, did-totals}
+use Rattle.rules.specs.Promises.{Promise, unfit, early, not_walking, not_over, rejected, accepted, did_begin, did_step, did_totals}
 use Rattle.rules.specs.Rounds.{Walked, begun, stepped, Finished, RoundExact}
 use Rattle.rules.specs.Search.{counted}
-use Rattle.rules.specs.States.{State, unread, k, p, fits, audited, sound, unsound-count}
-use Rattle.rules.specs.Updates.{entry-sound, entry_of}
+use Rattle.rules.specs.States.{State, unread, k, p, fits, audited, sound, unsound_count}
+use Rattle.rules.specs.Updates.{entry_sound, entry_of}
 use Rattle.rules.specs.declared.Entry.TheVariants.{Unread, Read}
 use Rattle.rules.specs.declared.Record.{Record}
 use Rattle.rules.specs.declared.Round.{Round}
@@ -40,18 +40,18 @@ module _ {X : Type 0} (F : Field X) (s : State X) where
     fit : fits F s ≡ true
     taken : s.taken_in ≡ true
 
-  begun-fits : {i : ℕ} {t : State X} → Walked F s i t → Begun
-  begun-fits (begun t (accepted none did-begin)) = record { fit = sure _ (λ e. none _ (unfit begin e)); taken = sure _ (λ e. none _ (early begin refl e)) }
-  begun-fits (stepped i t walked _ _ _) = begun-fits walked
+  begun_fits : {i : ℕ} {t : State X} → Walked F s i t → Begun
+  begun_fits (begun t (accepted none did_begin)) = record { fit = sure _ (λ e. none _ (unfit begin e)); taken = sure _ (λ e. none _ (early begin refl e)) }
+  begun_fits (stepped i t walked _ _ _) = begun_fits walked
 
   module _ (b : Begun) where
-    few-rows : (1 ≤ k s + p s) × (k s + p s ≤ 68)
-    few-rows = let f = fitting F s b.fit in (omega arith, omega arith)
+    few_rows : (1 ≤ k s + p s) × (k s + p s ≤ 68)
+    few_rows = let f = fitting F s b.fit in (omega arith, omega arith)
 
-    first-stage : {t : State X} → Promise F s begin done t → Stage 0 t
-    first-stage (accepted none did-begin) = record {
+    first_stage : {t : State X} → Promise F s begin done t → Stage 0 t
+    first_stage (accepted none did_begin) = record {
       sheet = unread;
-      stands = ap (λ r. standing r unread) (rw (lt-ltb 0 (k s + p s) few-rows.0));
+      stands = ap (λ r. standing r unread) (rw (lt-ltb 0 (k s + p s) few_rows.0));
       room = refl;
       entries = λ row l. absurd (omega arith);
     }
@@ -61,33 +61,33 @@ module _ {X : Type 0} (F : Field X) (s : State X) where
       entered : ℕ → Sheet
       entered row = record { records = set sheet.records row (verdict_of row) }
 
-      entered-all : (row : ℕ) → row < i + 1 → get_or (entered i).records row (record { entry = Unread }) ≡ verdict_of row
+      entered_all : (row : ℕ) → row < i + 1 → get_or (entered i).records row (record { entry = Unread }) ≡ verdict_of row
       unfolding entered
-      entered-all row h =
+      entered_all row h =
           elim (cases_eq row i) [
-            | inl e ↦ rw e (get_or-set_same sheet.records i (verdict_of i) (record { entry = Unread }) (omega (arith, few-rows.1)))
+            | inl e ↦ rw e (get_or-set_same sheet.records i (verdict_of i) (record { entry = Unread }) (omega (arith, few_rows.1)))
             | inr ne ↦ get_or-set_other sheet.records i row (verdict_of i) (record { entry = Unread }) ne ∙ entries row (omega arith)
           ]
 
-      next-stage : {answer : Answer X} {t : State X} → Promise F (standing (Walking i) sheet) step answer t → Stage (i + 1) t
+      next_stage : {answer : Answer X} {t : State X} → Promise F (standing (Walking i) sheet) step answer t → Stage (i + 1) t
       unfolding entered
-      next-stage (rejected r (unfit _ e) first) = absurd (both_ways _ e b.fit)
-      next-stage (rejected r (early _ _ e) first) = absurd (both_ways _ e b.taken)
-      next-stage (rejected r (not-walking e) first) = absurd (both_ways _ e refl)
-      next-stage (accepted none (did-step row e)) =
+      next_stage (rejected r (unfit _ e) first) = absurd (both_ways _ e b.fit)
+      next_stage (rejected r (early _ _ e) first) = absurd (both_ways _ e b.taken)
+      next_stage (rejected r (not_walking e) first) = absurd (both_ways _ e refl)
+      next_stage (accepted none (did_step row e)) =
           let same : row ≡ i = cc in record {
             sheet = entered i;
             stands = ap (λ r. standing (round_at (r + 1)) (entered r)) same;
             room = length-set sheet.records i (verdict_of i) ∙ room;
-            entries = entered-all;
+            entries = entered_all;
           }
 
     stage : {i : ℕ} {t : State X} → Walked F s i t → i ≤ k s + p s → Stage i t
-    stage (begun t promise) l = first-stage promise
+    stage (begun t promise) l = first_stage promise
     stage (stepped i t walked answer t' promise) l =
         let before = stage walked (omega arith) in
         let here : t ≡ standing (Walking i) before.sheet = before.stands ∙ rw (lt-ltb i (k s + p s) (omega arith)) in
-        next-stage i (omega arith) before.sheet before.room before.entries (subst (λ u. Promise F u step answer t') here promise)
+        next_stage i (omega arith) before.sheet before.room before.entries (subst (λ u. Promise F u step answer t') here promise)
 
     finished : (t : State X) → Stage (k s + p s) t → Finished F s t
     finished t last = record {
@@ -103,17 +103,17 @@ module _ {X : Type 0} (F : Field X) (s : State X) where
         read row l = ap (λ u. entry_of u row) here ∙ ap (λ r. r.entry) (last.entries row l)
 
         totalled : {answer : Answer X} {t' : State X} → Promise F (standing Over last.sheet) totals answer t'
-            → answer ≡ counts (counted (k s + p s) (sound F s)) (unsound-count F s)
+            → answer ≡ counts (counted (k s + p s) (sound F s)) (unsound_count F s)
         totalled (rejected r (unfit _ e) first) = absurd (both_ways _ e b.fit)
         totalled (rejected r (early _ _ e) first) = absurd (both_ways _ e b.taken)
-        totalled (rejected r (not-over e) first) = absurd (both_ways _ e refl)
-        totalled (accepted none did-totals) =
-            let same : (row : ℕ) → row < k s + p s → entry-sound (entry_of (standing Over last.sheet) row) ≡ sound F s row =
-            λ row l. ap (λ r. entry-sound r.entry) (last.entries row l) in
+        totalled (rejected r (not_over e) first) = absurd (both_ways _ e refl)
+        totalled (accepted none did_totals) =
+            let same : (row : ℕ) → row < k s + p s → entry_sound (entry_of (standing Over last.sheet) row) ≡ sound F s row =
+            λ row l. ap (λ r. entry_sound r.entry) (last.entries row l) in
             ap₂ counts (counted_same (k s + p s) _ _ same) (counted_same (k s + p s) _ _ (λ row l. ap not (same row l)))
 
-pub round-exact : {X : Type 0} (F : Field X) → RoundExact F
-round-exact F s i t walked = (
-  λ l. ap (λ u. u.round) (stage F s (begun-fits F s walked) walked (omega arith)).stands ∙ rw (lt-ltb i (k s + p s) l),
-  λ e. finished F s (begun-fits F s walked) t (subst (λ c. Stage F s c t) e (stage F s (begun-fits F s walked) walked (omega arith))),
+pub round_exact : {X : Type 0} (F : Field X) → RoundExact F
+round_exact F s i t walked = (
+  λ l. ap (λ u. u.round) (stage F s (begun_fits F s walked) walked (omega arith)).stands ∙ rw (lt-ltb i (k s + p s) l),
+  λ e. finished F s (begun_fits F s walked) t (subst (λ c. Stage F s c t) e (stage F s (begun_fits F s walked) walked (omega arith))),
 )

@@ -13,7 +13,7 @@ use Rattle.rules.specs.declared.Verdict.TheVariants.{Sound}
 -- Two blocks of n places differ in at least one place and in at most m.
 pub record FewDiffer {A : Type 0} (n m : ℕ) (f g : ℕ → A) : Type 0 where
   pub places : List ℕ
-  pub at-most : length places ≤ m
+  pub at_most : length places ≤ m
   pub elsewhere : (place : ℕ) → place < n → (f place ≡ g place) ⊎ In place places
   pub changed : ℕ
   pub below : changed < n

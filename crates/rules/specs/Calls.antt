@@ -21,32 +21,32 @@ pub data Answer (X : Type 0) : Type 0 where
   judged : Verdict → Answer X
   copied : List X → Answer X
   counts : ℕ → ℕ → Answer X
-  entry-is : Entry → Answer X
-  lowest-is : Option ℕ → Answer X
+  entry_is : Entry → Answer X
+  lowest_is : Option ℕ → Answer X
   mended : ℕ → Answer X
   refused : Refusal → Answer X
 
 -- what the caller's buffer holds after a call: what a read copied, and in all other cases what it held
-abbrev pub buffer-after : {X : Type 0} → List X → Answer X → List X
-buffer-after old done = old
-buffer-after old (judged verdict) = old
-buffer-after old (copied xs) = xs
-buffer-after old (counts sound others) = old
-buffer-after old (entry-is entry) = old
-buffer-after old (lowest-is row) = old
-buffer-after old (mended count) = old
-buffer-after old (refused refusal) = old
+abbrev pub buffer_after : {X : Type 0} → List X → Answer X → List X
+buffer_after old done = old
+buffer_after old (judged verdict) = old
+buffer_after old (copied xs) = xs
+buffer_after old (counts sound others) = old
+buffer_after old (entry_is entry) = old
+buffer_after old (lowest_is row) = old
+buffer_after old (mended count) = old
+buffer_after old (refused refusal) = old
 
-abbrev pub is-sound : Verdict → Bool
-is-sound Sound = true
-is-sound (Hole place) = false
-is-sound (Card c) = false
+abbrev pub is_sound : Verdict → Bool
+is_sound Sound = true
+is_sound (Hole place) = false
+is_sound (Card c) = false
 
 -- the place or the component that a verdict names; the layer says which of the two it is
-abbrev pub verdict-numbers : Verdict → List ℕ
-verdict-numbers Sound = []
-verdict-numbers (Hole place) = place ∷ []
-verdict-numbers (Card c) = c ∷ []
+abbrev pub verdict_numbers : Verdict → List ℕ
+verdict_numbers Sound = []
+verdict_numbers (Hole place) = place ∷ []
+verdict_numbers (Card c) = c ∷ []
 
 -- the numbers that a refusal returns: its own, and what it carries
 abbrev pub returned : Refusal → List ℕ
@@ -55,7 +55,7 @@ returned NotTakenIn = 2 ∷ []
 returned TakenInAlready = 3 ∷ []
 returned (NoSuchRow row) = 4 ∷ row ∷ []
 returned (BadSpan start) = 5 ∷ start ∷ []
-returned (Unsound row verdict) = 6 ∷ row ∷ verdict-numbers verdict
+returned (Unsound row verdict) = 6 ∷ row ∷ verdict_numbers verdict
 returned (Unreadable row place) = 7 ∷ row ∷ place ∷ []
 returned (Misfit row place) = 8 ∷ row ∷ place ∷ []
 returned (TooManyUnsound count) = 9 ∷ count ∷ []
@@ -63,25 +63,25 @@ returned WrongPhase = 10 ∷ []
 returned (StillWalking row) = 11 ∷ row ∷ []
 
 -- a refusal's own number
-abbrev pub own-number : Refusal → ℕ
-own-number r = slice_index (returned r) 0
+abbrev pub own_number : Refusal → ℕ
+own_number r = slice_index (returned r) 0
 
 -- the number with which a call returns that has nothing else to return: 0 where it is accepted, its refusal's number where it is not
-abbrev pub return-number : {X : Type 0} → Answer X → Option ℕ
-return-number done = Some 0
-return-number (judged verdict) = None
-return-number (copied xs) = Some 0
-return-number (counts sound others) = None
-return-number (entry-is entry) = None
-return-number (lowest-is row) = None
-return-number (mended count) = None
-return-number (refused refusal) = Some (own-number refusal)
+abbrev pub return_number : {X : Type 0} → Answer X → Option ℕ
+return_number done = Some 0
+return_number (judged verdict) = None
+return_number (copied xs) = Some 0
+return_number (counts sound others) = None
+return_number (entry_is entry) = None
+return_number (lowest_is row) = None
+return_number (mended count) = None
+return_number (refused refusal) = Some (own_number refusal)
 
 -- where the fault of an unsound row lies
-abbrev pub verdict-layer : Verdict → Layer
-verdict-layer Sound = Caller
-verdict-layer (Hole place) = Shelf
-verdict-layer (Card c) = Row
+abbrev pub verdict_layer : Verdict → Layer
+verdict_layer Sound = Caller
+verdict_layer (Hole place) = Shelf
+verdict_layer (Card c) = Row
 
 -- where a refusal's fault lies
 abbrev pub layer : Refusal → Layer
@@ -90,7 +90,7 @@ layer NotTakenIn = Caller
 layer TakenInAlready = Caller
 layer (NoSuchRow row) = Caller
 layer (BadSpan start) = Caller
-layer (Unsound row verdict) = verdict-layer verdict
+layer (Unsound row verdict) = verdict_layer verdict
 layer (Unreadable row place) = Shelf
 layer (Misfit row place) = Tray
 layer (TooManyUnsound count) = Caller
@@ -99,19 +99,19 @@ layer (StillWalking row) = Caller
 
 -- the order of the checks: a refusal's own number, with 8 and 9 exchanged
 abbrev pub rank : Refusal → ℕ
-rank r = cond (own-number r == 8) 9 (cond (own-number r == 9) 8 (own-number r))
+rank r = cond (own_number r == 8) 9 (cond (own_number r == 9) 8 (own_number r))
 
 -- any call but fit and intake wants a tray that is taken in
-abbrev pub wants-intake : {X : Type 0} → Call X → Bool
-wants-intake fit = false
-wants-intake intake = false
-wants-intake cross = true
-wants-intake begin = true
-wants-intake step = true
-wants-intake totals = true
-wants-intake first = true
-wants-intake mend = true
-wants-intake (audit row) = true
-wants-intake (record_of row) = true
-wants-intake (read row start count) = true
-wants-intake (write row start symbols) = true
+abbrev pub wants_intake : {X : Type 0} → Call X → Bool
+wants_intake fit = false
+wants_intake intake = false
+wants_intake cross = true
+wants_intake begin = true
+wants_intake step = true
+wants_intake totals = true
+wants_intake first = true
+wants_intake mend = true
+wants_intake (audit row) = true
+wants_intake (record_of row) = true
+wants_intake (read row start count) = true
+wants_intake (write row start symbols) = true

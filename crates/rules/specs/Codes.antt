@@ -21,11 +21,11 @@ module _ {X : Type 0} (F : Field X) where
   combination k column i = sum_to F k (λ j. F.mul (coefficient F i j) (column j))
 
   -- The blocks of all rows over the data rows' blocks: parity blocks are worked afresh.
-  abbrev pub table-block : (data-rows : ℕ) → (ℕ → ℕ → X) → ℕ → ℕ → X
-  table-block data-rows blocks row place =
-      cond (nat_lt row data-rows) (blocks row place) (combination data-rows (λ j. blocks j place) (row - data-rows))
+  abbrev pub table_block : (data_rows : ℕ) → (ℕ → ℕ → X) → ℕ → ℕ → X
+  table_block data_rows blocks row place =
+      cond (nat_lt row data_rows) (blocks row place) (combination data_rows (λ j. blocks j place) (row - data_rows))
 
   -- All rows, with their cards: these are worked afresh too.
-  abbrev pub table : (data-rows block : ℕ) → (ℕ → ℕ → X) → ℕ → ℕ → X
-  table data-rows block blocks row place =
-      cond (nat_lt place block) (table-block data-rows blocks row place) (component block (table-block data-rows blocks row) (place - block))
+  abbrev pub table : (data_rows block : ℕ) → (ℕ → ℕ → X) → ℕ → ℕ → X
+  table data_rows block blocks row place =
+      cond (nat_lt place block) (table_block data_rows blocks row place) (component block (table_block data_rows blocks row) (place - block))

@@ -4,7 +4,7 @@ use Rattle.algebra.specs.Algebra.{Field}
 use Rattle.rules.specs.Calls.{begin, step, totals, Answer, done, counts}
 use Rattle.rules.specs.Promises.{Promise}
 use Rattle.rules.specs.Search.{counted}
-use Rattle.rules.specs.States.{State, k, p, audited, sound, unsound-count}
+use Rattle.rules.specs.States.{State, k, p, audited, sound, unsound_count}
 use Rattle.rules.specs.Updates.{entry_of}
 use Rattle.rules.specs.declared.Entry.TheVariants.{Read}
 use Rattle.rules.specs.declared.Round.TheVariants.{Walking, Over}
@@ -19,7 +19,7 @@ module _ {X : Type 0} (F : Field X) where
   pub record Finished (s t : State X) : Type 0 where
     pub over : t.round ≡ Over
     pub entries : (row : ℕ) → row < k s + p s → entry_of t row ≡ Read (audited F s row)
-    pub totalled : (answer : Answer X) (t' : State X) → Promise F t totals answer t' → answer ≡ counts (counted (k s + p s) (sound F s)) (unsound-count F s)
+    pub totalled : (answer : Answer X) (t' : State X) → Promise F t totals answer t' → answer ≡ counts (counted (k s + p s) (sound F s)) (unsound_count F s)
 
   -- A round walks at row i after i steps, and after one step for each row it is finished.
   abbrev pub RoundExact : Type 0

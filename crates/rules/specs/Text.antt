@@ -5,6 +5,6 @@ use Rattle.std.specs.Prelude.{ℕ, List, [], ◌∷◌, ◌++◌, codes, decimal
 abbrev pub spaced : ℕ → List ℕ
 spaced v = codes " " ++ decimal v
 
-abbrev pub numbers-text : List ℕ → List ℕ
-numbers-text [] = []
-numbers-text (v ∷ vs) = decimal v ++ flat_map spaced vs
+abbrev pub numbers_text : List ℕ → List ℕ
+numbers_text [] = []
+numbers_text (v ∷ vs) = decimal v ++ flat_map spaced vs

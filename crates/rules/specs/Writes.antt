@@ -6,7 +6,7 @@ use Rattle.rules.specs.Calls.{write, done}
 use Rattle.rules.specs.Codes.{combination}
 use Rattle.rules.specs.Exact.{ParityFits}
 use Rattle.rules.specs.Promises.{Promise}
-use Rattle.rules.specs.States.{State, k, p, n, cell, symbol-at, sound}
+use Rattle.rules.specs.States.{State, k, p, n, cell, symbol_at, sound}
 use Rattle.rules.specs.Twins.{overwritten}
 
 module _ {X : Type 0} (F : Field X) where
@@ -20,9 +20,9 @@ module _ {X : Type 0} (F : Field X) where
     -- The other data rows are untouched, damaged or not.
     pub others : (j place : ℕ) → j < k s → j ≢ row → cell s' j place ≡ cell s j place
     -- A parity row misses at each place by as much as before,
-    pub parity : (i place : ℕ) → i < p s → place < n s → miss (k s) (symbol-at F s') i place ≡ miss (k s) (symbol-at F s) i place
+    pub parity : (i place : ℕ) → i < p s → place < n s → miss (k s) (symbol_at F s') i place ≡ miss (k s) (symbol_at F s) i place
     -- so where it fitted, it fits.
-    pub agreeing : (i place : ℕ) → i < p s → place < n s → ParityFits F (k s) (symbol-at F s) i place → ParityFits F (k s) (symbol-at F s') i place
+    pub agreeing : (i place : ℕ) → i < p s → place < n s → ParityFits F (k s) (symbol_at F s) i place → ParityFits F (k s) (symbol_at F s') i place
     -- Rows that were sound are sound.
     pub cards : (r : ℕ) → r < k s + p s → sound F s r ≡ true → sound F s' r ≡ true
 

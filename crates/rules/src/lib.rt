@@ -2,12 +2,12 @@
 #![tactic(auto)]
 
 ghost use Rattle.std.specs.Prelude.{◌≡◌, ◌+◌, ◌^◌, ◌<◌, not, slice_set, Some};
-ghost use Rattle.rules.specs.Calls.{own-number, returned, layer as layer-of, is-sound};
+ghost use Rattle.rules.specs.Calls.{own_number, returned, layer as layer_of, is_sound};
 ghost use Rattle.rules.specs.Search.{counted, lowest};
-ghost use Rattle.rules.specs.Sheets.{entered, tallied, turn-answer, turned};
-ghost use Rattle.rules.specs.States.{unread, within-limits};
-ghost use Rattle.rules.specs.Text.{numbers-text};
-ghost use Rattle.rules.specs.Updates.{entry-at, entry-bad, entry-sound, next-row};
+ghost use Rattle.rules.specs.Sheets.{entered, tallied, turn_answer, turned};
+ghost use Rattle.rules.specs.States.{unread, within_limits};
+ghost use Rattle.rules.specs.Text.{numbers_text};
+ghost use Rattle.rules.specs.Updates.{entry_at, entry_bad, entry_sound, next_row};
 
 use std::fmt;
 
@@ -25,7 +25,7 @@ pub struct Sizes {
 impl Sizes {
     // Whether each size keeps its limits.
     pub fn in_limits(&self) -> bool
-        ensures { result ≡ within-limits self.now }
+        ensures { result ≡ within_limits self.now }
     {
         (1..=64).contains(&self.data_rows)
             && (1..=4).contains(&self.parity_rows)
@@ -46,7 +46,7 @@ pub enum Verdict {
 
 impl Verdict {
     pub fn is_sound(self) -> bool
-        ensures { result ≡ is-sound self }
+        ensures { result ≡ is_sound self }
     {
         match self {
             Verdict::Sound => true,
@@ -95,7 +95,7 @@ impl Sheet {
 
     // What the sheet says of a row; nothing is read of a row that it has no record for.
     pub fn entry(&self, row: usize) -> Entry
-        ensures { result ≡ entry-at self.now row }
+        ensures { result ≡ entry_at self.now row }
     {
         if row < self.records.len() {
             self.records[row].entry
@@ -115,8 +115,8 @@ impl Sheet {
 
     // How many of the rows were entered as sound, and how many were not.
     pub fn totals(&self, rows: usize) -> (usize, usize)
-        ensures sound { result.0 ≡ counted rows (λ r. entry-sound (entry-at self.now r)) }
-        ensures others { result.1 ≡ counted rows (λ r. not (entry-sound (entry-at self.now r))) }
+        ensures sound { result.0 ≡ counted rows (λ r. entry_sound (entry_at self.now r)) }
+        ensures others { result.1 ≡ counted rows (λ r. not (entry_sound (entry_at self.now r))) }
     {
         let mut totals = (0, 0);
         for row in 0..rows {
@@ -127,7 +127,7 @@ impl Sheet {
 
     // The lowest of the rows that was entered as not sound.
     pub fn first_unsound(&self, rows: usize) -> Option<usize>
-        ensures { result ≡ lowest rows (λ r. entry-bad (entry-at self.now r)) }
+        ensures { result ≡ lowest rows (λ r. entry_bad (entry_at self.now r)) }
     {
         for row in 0..rows {
             if let Entry::Read(verdict) = self.entry(row) {
@@ -171,7 +171,7 @@ pub enum Action {
 impl Round {
     // Takes an action on a tray of so many rows. It answers the row at which the round begins, the row that a step audits, or how many rows were walked.
     pub fn act(&mut self, action: Action, rows: usize) -> Result<usize, Refusal>
-        ensures answer { result ≡ turn-answer self.old action rows }
+        ensures answer { result ≡ turn_answer self.old action rows }
         ensures after { self.new ≡ turned self.old action rows }
     {
         match (*self, action) {
@@ -192,7 +192,7 @@ impl Round {
 
 // The round after the step at a row: at the next row, or over.
 fn following(row: usize, rows: usize) -> Round
-    ensures { result ≡ next-row row rows }
+    ensures { result ≡ next_row row rows }
 {
     match row.checked_add(1) {
         Some(next) if next < rows => Round::Walking(next),
@@ -234,7 +234,7 @@ pub enum Layer {
 
 impl Refusal {
     pub fn number(self) -> u8
-        ensures { result ≡ own-number self }
+        ensures { result ≡ own_number self }
     {
         match self {
             Refusal::DoesNotFit => 1,
@@ -252,7 +252,7 @@ impl Refusal {
     }
 
     pub fn layer(self) -> Layer
-        ensures { result ≡ layer-of self }
+        ensures { result ≡ layer_of self }
     {
         match self {
             Refusal::Unsound(_, Verdict::Hole(_)) | Refusal::Unreadable(_, _) => Layer::Shelf,
@@ -265,7 +265,7 @@ impl Refusal {
 
 // The numbers that a refusal returns: its own, and what it carries.
 impl fmt::Display for Refusal {
-    ghost output = { λ r. Some (numbers-text (returned r)) };
+    ghost output = { λ r. Some (numbers_text (returned r)) };
 
     fn fmt<W: fmt::Write>(&self, f: &mut fmt::Formatter<W>) -> fmt::Result {
         let number = self.number();

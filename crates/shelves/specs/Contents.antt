@@ -11,9 +11,9 @@ pub data Cell (A : Type 0) : Type 0 where
   symbol : A → Cell A
   hole : Cell A
 
-abbrev pub is-hole : {A : Type 0} → Cell A → Bool
-is-hole (symbol x) = false
-is-hole hole = true
+abbrev pub is_hole : {A : Type 0} → Cell A → Bool
+is_hole (symbol x) = false
+is_hole hole = true
 
 -- a row and a place below the sizes
 abbrev pub within : ℕ → ℕ → ℕ → ℕ → Bool
@@ -24,7 +24,7 @@ pub record Contents (A : Type 0) : Type 0 where
   pub rows : ℕ
   pub places : ℕ
   pub at : ℕ → ℕ → Cell A
-  pub beyond : (row place : ℕ) → within rows places row place ≡ false → is-hole (at row place) ≡ true
+  pub beyond : (row place : ℕ) → within rows places row place ≡ false → is_hole (at row place) ≡ true
 
 -- these cells inside the sizes, and holes beyond
 abbrev pub filled : {A : Type 0} → ℕ → ℕ → (ℕ → ℕ → Cell A) → Contents A
@@ -32,7 +32,7 @@ filled rows places cells = record {
   rows = rows;
   places = places;
   at = λ row place. cond (within rows places row place) (cells row place) hole;
-  beyond = λ row place e. ap (λ b. is-hole (cond b (cells row place) hole)) e;
+  beyond = λ row place e. ap (λ b. is_hole (cond b (cells row place) hole)) e;
 }
 
 -- no rows and no places
@@ -46,12 +46,12 @@ abbrev pub got : {A : Type 0} → Cell A → Got A
 got (symbol x) = Symbol x
 got hole = Hole
 
-abbrev pub get-answer : {A : Type 0} → Contents A → ℕ → ℕ → Got A
-get-answer s row place = cond (inside s row place) (got (s.at row place)) Outside
+abbrev pub get_answer : {A : Type 0} → Contents A → ℕ → ℕ → Got A
+get_answer s row place = cond (inside s row place) (got (s.at row place)) Outside
 
-abbrev pub put-answer : {A : Type 0} → Contents A → ℕ → ℕ → Placed
-put-answer s row place = cond (inside s row place) Done Beyond
+abbrev pub put_answer : {A : Type 0} → Contents A → ℕ → ℕ → Placed
+put_answer s row place = cond (inside s row place) Done Beyond
 
 -- a put changes its place alone, and beyond the sizes nothing
-abbrev pub after-put : {A : Type 0} → Contents A → ℕ → ℕ → A → Contents A
-after-put s row place x = filled s.rows s.places (λ r c. cond (r == row && c == place) (symbol x) (s.at r c))
+abbrev pub after_put : {A : Type 0} → Contents A → ℕ → ℕ → A → Contents A
+after_put s row place x = filled s.rows s.places (λ r c. cond (r == row && c == place) (symbol x) (s.at r c))

@@ -1,7 +1,7 @@
 // A shelf over lent memory: symbols and marks, row after row.
 ghost use Rattle.std.specs.Prelude.{◌≡◌, ◌<◌, length, slice_index_or};
-ghost use Rattle.shelves.specs.Array.{array-contents, array_spot, Lent, Stored, Located};
-ghost use Rattle.shelves.specs.Contents.{put-answer, after-put};
+ghost use Rattle.shelves.specs.Array.{array_contents, array_spot, Lent, Stored, Located};
+ghost use Rattle.shelves.specs.Contents.{put_answer, after_put};
 ghost use Rattle.shelves.specs.Memory.{memory, sized};
 
 use crate::{Got, Placed, Shelf};
@@ -30,7 +30,7 @@ impl<'a, T: Copy> ArrayShelf<'a, T> {
         symbols: &'a mut [T],
         marks: &'a mut [u8],
     ) -> ArrayShelf<'a, T>
-        ensures contents { array-contents result ≡ memory rows places symbols.old marks.old }
+        ensures contents { array_contents result ≡ memory rows places symbols.old marks.old }
         ensures lent { Lent rows places symbols.entry marks.entry result }
     {
         ArrayShelf {
@@ -67,7 +67,7 @@ impl<'a, T: Copy> ArrayShelf<'a, T> {
 impl<'a, T: Copy> Shelf for ArrayShelf<'a, T> {
     type Symbol = T;
 
-    ghost contents = { array-contents };
+    ghost contents = { array_contents };
 
     fn rows(&self) -> usize {
         if self.is_sized() { self.rows } else { 0 }
@@ -91,8 +91,8 @@ impl<'a, T: Copy> Shelf for ArrayShelf<'a, T> {
     }
 
     fn put(&mut self, row: usize, place: usize, symbol: T) -> Placed
-        ensures answer { result ≡ put-answer (array-contents self.old) row place }
-        ensures after { array-contents self.new ≡ after-put (array-contents self.old) row place symbol }
+        ensures answer { result ≡ put_answer (array_contents self.old) row place }
+        ensures after { array_contents self.new ≡ after_put (array_contents self.old) row place symbol }
         ensures stored { Stored self.old row place symbol self.new }
     {
         match self.spot(row, place) {

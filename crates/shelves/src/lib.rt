@@ -2,7 +2,7 @@
 #![tactic(auto)]
 
 ghost use Rattle.std.specs.Prelude.{◌≡◌};
-ghost use Rattle.shelves.specs.Contents.{Contents, get-answer, put-answer, after-put};
+ghost use Rattle.shelves.specs.Contents.{Contents, get_answer, put_answer, after_put};
 
 mod array;
 
@@ -37,11 +37,11 @@ pub trait Shelf {
         ensures { result ≡ (contents self.now).places };
 
     fn get(&self, row: usize, place: usize) -> Got<Self::Symbol>
-        ensures { result ≡ get-answer (contents self.now) row place };
+        ensures { result ≡ get_answer (contents self.now) row place };
 
     fn put(&mut self, row: usize, place: usize, symbol: Self::Symbol) -> Placed
-        ensures answer { result ≡ put-answer (contents self.old) row place }
-        ensures after { contents self.new ≡ after-put (contents self.old) row place symbol };
+        ensures answer { result ≡ put_answer (contents self.old) row place }
+        ensures after { contents self.new ≡ after_put (contents self.old) row place symbol };
 }
 
 #[cfg(test)]

@@ -4,68 +4,68 @@ use borrow.Author.Tests.{both_ways}
 use Rattle.algebra.specs.Algebra.{Field}
 use Rattle.shelves.specs.Contents.{Contents}
 use Rattle.rules.specs.Calls.{mend, mended, refused, rank}
-use Rattle.rules.specs.Promises.{Line, unfit, early, misfit-mend, too_many, Promise, rejected, accepted, did-mend}
-use Rattle.rules.specs.Search.{counted, lowest-pair}
-use Rattle.rules.specs.States.{State, new, k, p, n, fits, sound, unsound-count, with-cells}
-use Rattle.rules.specs.Updates.{Worked, worked-misfit, mended-cells}
+use Rattle.rules.specs.Promises.{Line, unfit, early, misfit_mend, too_many, Promise, rejected, accepted, did_mend}
+use Rattle.rules.specs.Search.{counted, lowest_pair}
+use Rattle.rules.specs.States.{State, new, k, p, n, fits, sound, unsound_count, with_cells}
+use Rattle.rules.specs.Updates.{Worked, worked_misfit, mended_cells}
 use Rattle.rules.specs.declared.Refusal.{Refusal}
 use Rattle.rules.specs.declared.Refusal.TheVariants.{Misfit, TooManyUnsound}
 use Rattle.rules.proofs.Counted.{counted_same}
 use Rattle.rules.proofs.Working.{enough}
-use Rattle.tray.proofs.Answering.{with-contents}
+use Rattle.tray.proofs.Answering.{with_contents}
 
 module _ {A : Type 0} (F : Field A) (s : State A) (e : fits F s ≡ true) (t : s.taken_in ≡ true) where
-  before-many : (q : Refusal) → rank q < 8 → Line F s mend q → ⊥
-  before-many q less (unfit c ne) = both_ways _ ne e
-  before-many q less (early c w ne) = both_ways _ ne t
-  before-many q less (too_many many) = omega arith
-  before-many q less (misfit-mend blocks i place worked h) = omega arith
+  before_many : (q : Refusal) → rank q < 8 → Line F s mend q → ⊥
+  before_many q less (unfit c ne) = both_ways _ ne e
+  before_many q less (early c w ne) = both_ways _ ne t
+  before_many q less (too_many many) = omega arith
+  before_many q less (misfit_mend blocks i place worked h) = omega arith
 
-  pub mend-many : (count : ℕ) → count ≡ unsound-count F s → p s < count → Promise F s mend (refused (TooManyUnsound count)) s
-  mend-many count is many =
+  pub mend_many : (count : ℕ) → count ≡ unsound_count F s → p s < count → Promise F s mend (refused (TooManyUnsound count)) s
+  mend_many count is many =
       subst (λ (c : ℕ). Promise F s mend (refused (TooManyUnsound c)) s) (sym is)
-      (rejected (TooManyUnsound (unsound-count F s)) (too_many (omega arith)) before-many)
+      (rejected (TooManyUnsound (unsound_count F s)) (too_many (omega arith)) before_many)
 
   -- what the search for a misfit found is the same for all blocks that mend could have worked
-  module _ (few : unsound-count F s ≤ p s) (found : Option (ℕ × ℕ)) (is : (blocks : ℕ → ℕ → A) → Worked F s blocks → found ≡ lowest-pair (p s) (n s) (worked-misfit F s blocks)) where
-    before-misfit : (q : Refusal) → rank q < 9 → Line F s mend q → ⊥
-    before-misfit q less (unfit c ne) = both_ways _ ne e
-    before-misfit q less (early c w ne) = both_ways _ ne t
-    before-misfit q less (too_many many) = omega arith
-    before-misfit q less (misfit-mend blocks i place worked h) = omega arith
+  module _ (few : unsound_count F s ≤ p s) (found : Option (ℕ × ℕ)) (is : (blocks : ℕ → ℕ → A) → Worked F s blocks → found ≡ lowest_pair (p s) (n s) (worked_misfit F s blocks)) where
+    before_misfit : (q : Refusal) → rank q < 9 → Line F s mend q → ⊥
+    before_misfit q less (unfit c ne) = both_ways _ ne e
+    before_misfit q less (early c w ne) = both_ways _ ne t
+    before_misfit q less (too_many many) = omega arith
+    before_misfit q less (misfit_mend blocks i place worked h) = omega arith
 
     module _ (blocks : ℕ → ℕ → A) (worked : Worked F s blocks) where
-      pub mend-misfit : (i place row : ℕ) → row ≡ k s + i → found ≡ Some (i, place) → Promise F s mend (refused (Misfit row place)) s
-      mend-misfit i place row of hit =
+      pub mend_misfit : (i place row : ℕ) → row ≡ k s + i → found ≡ Some (i, place) → Promise F s mend (refused (Misfit row place)) s
+      mend_misfit i place row of hit =
           subst (λ (r : ℕ). Promise F s mend (refused (Misfit r place)) s) (sym of)
-          (rejected (Misfit (k s + i) place) (misfit-mend blocks i place worked (sym (is blocks worked) ∙ hit)) before-misfit)
+          (rejected (Misfit (k s + i) place) (misfit_mend blocks i place worked (sym (is blocks worked) ∙ hit)) before_misfit)
 
     module _ (none : found ≡ None) where
-      no-line : (q : Refusal) → Line F s mend q → ⊥
-      no-line q (unfit c ne) = both_ways _ ne e
-      no-line q (early c w ne) = both_ways _ ne t
-      no-line q (too_many many) = omega arith
-      no-line q (misfit-mend blocks i place worked h) =
+      no_line : (q : Refusal) → Line F s mend q → ⊥
+      no_line q (unfit c ne) = both_ways _ ne e
+      no_line q (early c w ne) = both_ways _ ne t
+      no_line q (too_many many) = omega arith
+      no_line q (misfit_mend blocks i place worked h) =
           let clash : ◌≡◌ {A = Option (ℕ × ℕ)} None (Some (i, place)) = sym none ∙ is blocks worked ∙ h in
           let z : ◌≡◌ {A = ℕ} 0 1 = cc in omega arith
 
-      pub mend-done : (blocks : ℕ → ℕ → A) → Worked F s blocks → (count : ℕ) → count ≡ unsound-count F s → (held : Contents A)
-          → held ≡ (with-cells s (mended-cells F s blocks)).contents → Promise F s mend (mended count) (with-contents F s held)
-      mend-done blocks worked count all held put =
-          subst₂ (λ (c : ℕ) (v : Contents A). Promise F s mend (mended c) (with-contents F s v)) (sym all) (sym put)
-          (accepted no-line (did-mend blocks worked))
+      pub mend_done : (blocks : ℕ → ℕ → A) → Worked F s blocks → (count : ℕ) → count ≡ unsound_count F s → (held : Contents A)
+          → held ≡ (with_cells s (mended_cells F s blocks)).contents → Promise F s mend (mended count) (with_contents F s held)
+      mend_done blocks worked count all held put =
+          subst₂ (λ (c : ℕ) (v : Contents A). Promise F s mend (mended c) (with_contents F s v)) (sym all) (sym put)
+          (accepted no_line (did_mend blocks worked))
 
 -- blocks are worked for a tray as much as for a new one with the same sizes and contents
-pub worked-new : {A : Type 0} (F : Field A) (s : State A) (blocks : ℕ → ℕ → A) → Worked F s blocks → Worked F (new s.sizes s.contents) blocks
-worked-new F s blocks w = record { keeps = w.keeps; solves = w.solves }
+pub worked_new : {A : Type 0} (F : Field A) (s : State A) (blocks : ℕ → ℕ → A) → Worked F s blocks → Worked F (new s.sizes s.contents) blocks
+worked_new F s blocks w = record { keeps = w.keeps; solves = w.solves }
 
-pub new-worked : {A : Type 0} (F : Field A) (s : State A) (blocks : ℕ → ℕ → A) → Worked F (new s.sizes s.contents) blocks → Worked F s blocks
-new-worked F s blocks w = record { keeps = w.keeps; solves = w.solves }
+pub new_worked : {A : Type 0} (F : Field A) (s : State A) (blocks : ℕ → ℕ → A) → Worked F (new s.sizes s.contents) blocks → Worked F s blocks
+new_worked F s blocks w = record { keeps = w.keeps; solves = w.solves }
 
 -- the rows that mend gathered give it enough sound parity rows
-pub enough-gathered : {A : Type 0} (F : Field A) (s : State A) (flags : ℕ → Bool) → ((row : ℕ) → row < k s + p s → flags row ≡ sound F s row) → unsound-count F s ≤ p s
+pub enough_gathered : {A : Type 0} (F : Field A) (s : State A) (flags : ℕ → Bool) → ((row : ℕ) → row < k s + p s → flags row ≡ sound F s row) → unsound_count F s ≤ p s
     → counted (k s) (λ j. not (flags j)) ≤ counted (p s) (λ i. flags (k s + i))
-enough-gathered F s flags same few =
+enough_gathered F s flags same few =
     let a = counted_same (k s) (λ j. not (flags j)) (λ j. not (sound F s j)) (λ j l. ap not (same j (omega arith))) in
     let b = counted_same (p s) (λ i. flags (k s + i)) (λ i. sound F s (k s + i)) (λ i l. same (k s + i) (omega arith)) in
     omega (arith, a, b, enough F s few)

@@ -2,10 +2,10 @@
 use Rattle.std.specs.Prelude.{◌≡◌, ℕ, true, List, map, Ok, Err, Result}
 use Rattle.algebra.specs.Algebra.{Field}
 use Rattle.shelves.specs.Contents.{Contents}
-use Rattle.rules.specs.Calls.{Call, Answer, done, copied, counts, refused, wants-intake}
+use Rattle.rules.specs.Calls.{Call, Answer, done, copied, counts, refused, wants_intake}
 use Rattle.rules.specs.Promises.{Promise}
-use Rattle.rules.specs.States.{State, fits, with-cells}
-use Rattle.rules.specs.Views.{seen-contents}
+use Rattle.rules.specs.States.{State, fits, with_cells}
+use Rattle.rules.specs.Views.{seen_contents}
 use Rattle.rules.specs.declared.Refusal.{Refusal}
 use Rattle.tray.specs.declared.Tray.{Tray}
 
@@ -13,15 +13,15 @@ use Rattle.tray.specs.declared.Tray.{Tray}
 abbrev pub state : {S X A : Type 0} → (S → Contents X) → (X → A) → Tray S X → State A
 state contents meaning t = record {
   sizes = t.sizes;
-  contents = seen-contents meaning (contents t.shelf);
+  contents = seen_contents meaning (contents t.shelf);
   taken_in = t.taken_in;
   round = t.round;
   sheet = t.sheet;
 }
 
 -- the same tray over other contents
-abbrev pub on-contents : {A : Type 0} → State A → Contents A → State A
-on-contents s contents = record {
+abbrev pub on_contents : {A : Type 0} → State A → Contents A → State A
+on_contents s contents = record {
   sizes = s.sizes;
   contents = contents;
   taken_in = s.taken_in;
@@ -30,27 +30,27 @@ on-contents s contents = record {
 }
 
 -- what a result answers: an accepted call what it returns, as an answer, and a refused one its refusal
-abbrev pub answer-by : {A T : Type 0} → (T → Answer A) → Result T Refusal → Answer A
-answer-by answer (Ok x) = answer x
-answer-by answer (Err r) = refused r
+abbrev pub answer_by : {A T : Type 0} → (T → Answer A) → Result T Refusal → Answer A
+answer_by answer (Ok x) = answer x
+answer_by answer (Err r) = refused r
 
 -- an accepted call with nothing else to return answers 0
-abbrev pub answer-of : {A : Type 0} → Result (Unit {0}) Refusal → Answer A
-answer-of = answer-by (λ u. done)
+abbrev pub answer_of : {A : Type 0} → Result (Unit {0}) Refusal → Answer A
+answer_of = answer_by (λ u. done)
 
 -- a read answers what its buffer holds afterwards
-abbrev pub read-answer : {X A : Type 0} → (X → A) → List X → Result (Unit {0}) Refusal → Answer A
-read-answer meaning buffer = answer-by (λ u. copied (map meaning buffer))
+abbrev pub read_answer : {X A : Type 0} → (X → A) → List X → Result (Unit {0}) Refusal → Answer A
+read_answer meaning buffer = answer_by (λ u. copied (map meaning buffer))
 
 -- a pair of counts: the sound rows and the others
-abbrev pub counts-of : {A : Type 0} → ℕ × ℕ → Answer A
-counts-of pair = counts pair.0 pair.1
+abbrev pub counts_of : {A : Type 0} → ℕ × ℕ → Answer A
+counts_of pair = counts pair.0 pair.1
 
 -- What the checks that all calls on a tray share come to: the tray fits and is taken in; or every such call is refused.
 abbrev pub Ready : {A : Type 0} → Field A → State A → Result (Unit {0}) Refusal → Type 0
 Ready F s (Ok u) = (fits F s ≡ true) × (s.taken_in ≡ true)
-Ready {A} F s (Err r) = (c : Call A) → wants-intake c ≡ true → Promise F s c (refused r) s
+Ready {A} F s (Err r) = (c : Call A) → wants_intake c ≡ true → Promise F s c (refused r) s
 
 -- Where the sizes stay, an exchange is what damage does in a run: other cells inside the sizes, and nothing else.
 abbrev pub ExchangedAs : {A : Type 0} → State A → Contents A → State A → Type 0
-ExchangedAs s contents after = contents.rows ≡ s.contents.rows → contents.places ≡ s.contents.places → after ≡ with-cells s contents.at
+ExchangedAs s contents after = contents.rows ≡ s.contents.rows → contents.places ≡ s.contents.places → after ≡ with_cells s contents.at

@@ -4,9 +4,9 @@
 ghost use Rattle.std.specs.Prelude.{◌≡◌, ℕ, ◌+◌, ◌^◌, ◌<◌, length, map, Some, if◌then◌else◌, OnErr};
 ghost use Rattle.algebra.specs.Algebra.{Field as Algebra};
 ghost use Rattle.algebra.specs.Below.{Below};
-ghost use Rattle.rules.specs.Calls.{fit as fit-call, intake as intake-call, audit as audit-call, read as read-call, write as write-call, cross as cross-call};
-ghost use Rattle.rules.specs.Calls.{begin as begin-call, step as step-call, totals as totals-call, record_of as record-call, first as first-call, mend as mend-call};
-ghost use Rattle.rules.specs.Calls.{judged, entry-is, lowest-is, mended, return-number};
+ghost use Rattle.rules.specs.Calls.{fit as fit_call, intake as intake_call, audit as audit_call, read as read_call, write as write_call, cross as cross_call};
+ghost use Rattle.rules.specs.Calls.{begin as begin_call, step as step_call, totals as totals_call, record_of as record_call, first as first_call, mend as mend_call};
+ghost use Rattle.rules.specs.Calls.{judged, entry_is, lowest_is, mended, return_number};
 ghost use Rattle.rules.specs.Audits.{AuditExact, ChangesSeen, NoLongerSound};
 ghost use Rattle.rules.specs.Crosses.{CrossAccepts};
 ghost use Rattle.rules.specs.Exact.{IntakeExact, MendExact};
@@ -15,9 +15,9 @@ ghost use Rattle.rules.specs.Rounds.{RoundExact};
 ghost use Rattle.rules.specs.States.{fits};
 ghost use Rattle.rules.specs.Twins.{AuditFaithful, MendFaithful, Faithful};
 ghost use Rattle.rules.specs.Updates.{allowed};
-ghost use Rattle.rules.specs.Views.{seen, seen-contents};
+ghost use Rattle.rules.specs.Views.{seen, seen_contents};
 ghost use Rattle.rules.specs.Writes.{WriteExact};
-ghost use Rattle.tray.specs.State.{state, on-contents, answer-of, answer-by, ExchangedAs, read-answer, counts-of, Ready};
+ghost use Rattle.tray.specs.State.{state, on_contents, answer_of, answer_by, ExchangedAs, read_answer, counts_of, Ready};
 
 use algebra::Field;
 use rules::{Action, Entry, Refusal, Round, Sheet, Sizes, Verdict};
@@ -66,8 +66,8 @@ where
 
     // Exchanges the shelf for another and gives the old one back: what damage between calls amounts to, where the sizes stay. All else is as it was.
     pub fn replace_shelf(&mut self, shelf: S) -> S
-        ensures state { state S.Shelf.contents S.Symbol.Field.meaning self.new ≡ on-contents (state S.Shelf.contents S.Symbol.Field.meaning self.old) (seen-contents S.Symbol.Field.meaning (S.Shelf.contents shelf)) }
-        ensures damage { ExchangedAs (state S.Shelf.contents S.Symbol.Field.meaning self.old) (seen-contents S.Symbol.Field.meaning (S.Shelf.contents shelf)) (state S.Shelf.contents S.Symbol.Field.meaning self.new) }
+        ensures state { state S.Shelf.contents S.Symbol.Field.meaning self.new ≡ on_contents (state S.Shelf.contents S.Symbol.Field.meaning self.old) (seen_contents S.Symbol.Field.meaning (S.Shelf.contents shelf)) }
+        ensures damage { ExchangedAs (state S.Shelf.contents S.Symbol.Field.meaning self.old) (seen_contents S.Symbol.Field.meaning (S.Shelf.contents shelf)) (state S.Shelf.contents S.Symbol.Field.meaning self.new) }
         ensures shelf { self.new.shelf ≡ shelf }
         ensures old { result ≡ self.old.shelf }
     {
@@ -88,8 +88,8 @@ where
 
     // Whether the tray fits its shelf and its field.
     pub fn fit(&self) -> Result<(), Refusal>
-        ensures promise { Promise S.Symbol.Field.algebra (state S.Shelf.contents S.Symbol.Field.meaning self.now) fit-call (answer-of result) (state S.Shelf.contents S.Symbol.Field.meaning self.now) }
-        ensures number { return-number {X = Below S.Symbol.Field.size} (answer-of result) ≡ Some (if fits S.Symbol.Field.algebra (state S.Shelf.contents S.Symbol.Field.meaning self.now) then 0 else 1) }
+        ensures promise { Promise S.Symbol.Field.algebra (state S.Shelf.contents S.Symbol.Field.meaning self.now) fit_call (answer_of result) (state S.Shelf.contents S.Symbol.Field.meaning self.now) }
+        ensures number { return_number {X = Below S.Symbol.Field.size} (answer_of result) ≡ Some (if fits S.Symbol.Field.algebra (state S.Shelf.contents S.Symbol.Field.meaning self.now) then 0 else 1) }
     {
         if self.fits() {
             Ok(())
@@ -100,7 +100,7 @@ where
 
     // Takes the tray in: looks for holes in blocks and then for parity rows that do not fit, and puts every card.
     pub fn intake(&mut self) -> Result<(), Refusal>
-        ensures promise { Promise S.Symbol.Field.algebra (state S.Shelf.contents S.Symbol.Field.meaning self.old) intake-call (answer-of result) (state S.Shelf.contents S.Symbol.Field.meaning self.new) }
+        ensures promise { Promise S.Symbol.Field.algebra (state S.Shelf.contents S.Symbol.Field.meaning self.old) intake_call (answer_of result) (state S.Shelf.contents S.Symbol.Field.meaning self.new) }
         ensures exact { IntakeExact S.Symbol.Field.algebra }
     {
         if !self.fits() {
@@ -160,11 +160,11 @@ where
 
     // The verdict of one row.
     pub fn audit(&self, row: usize) -> Result<Verdict, Refusal>
-        ensures promise { Promise S.Symbol.Field.algebra (state S.Shelf.contents S.Symbol.Field.meaning self.now) (audit-call row) (answer-by judged result) (state S.Shelf.contents S.Symbol.Field.meaning self.now) }
+        ensures promise { Promise S.Symbol.Field.algebra (state S.Shelf.contents S.Symbol.Field.meaning self.now) (audit_call row) (answer_by judged result) (state S.Shelf.contents S.Symbol.Field.meaning self.now) }
         ensures exact { AuditExact S.Symbol.Field.algebra }
         ensures changes { ChangesSeen S.Symbol.Field.algebra }
         ensures no_longer { NoLongerSound S.Symbol.Field.algebra }
-        ensures after_runs { AuditFaithful S.Symbol.Field.algebra (state S.Shelf.contents S.Symbol.Field.meaning self.now) row (answer-by judged result) }
+        ensures after_runs { AuditFaithful S.Symbol.Field.algebra (state S.Shelf.contents S.Symbol.Field.meaning self.now) row (answer_by judged result) }
     {
         self.ready()?;
         if row >= self.rows() {
@@ -175,7 +175,7 @@ where
 
     // Copies a span of a sound row's block into the buffer, as many symbols as the buffer has.
     pub fn read(&self, row: usize, start: usize, buffer: &mut [S::Symbol]) -> Result<(), Refusal>
-        ensures promise { Promise S.Symbol.Field.algebra (state S.Shelf.contents S.Symbol.Field.meaning self.now) (read-call row start (length buffer.old)) (read-answer S.Symbol.Field.meaning buffer.new result) (state S.Shelf.contents S.Symbol.Field.meaning self.now) }
+        ensures promise { Promise S.Symbol.Field.algebra (state S.Shelf.contents S.Symbol.Field.meaning self.now) (read_call row start (length buffer.old)) (read_answer S.Symbol.Field.meaning buffer.new result) (state S.Shelf.contents S.Symbol.Field.meaning self.now) }
         ensures refused { OnErr result (buffer.new ≡ buffer.old) }
     {
         self.ready()?;
@@ -195,7 +195,7 @@ where
 
     // Writes symbols into a data row's block, and moves the parity rows and all cards touched by the change.
     pub fn write(&mut self, row: usize, start: usize, symbols: &[S::Symbol]) -> Result<(), Refusal>
-        ensures promise { Promise S.Symbol.Field.algebra (state S.Shelf.contents S.Symbol.Field.meaning self.old) (write-call row start (map S.Symbol.Field.meaning symbols.now)) (answer-of result) (state S.Shelf.contents S.Symbol.Field.meaning self.new) }
+        ensures promise { Promise S.Symbol.Field.algebra (state S.Shelf.contents S.Symbol.Field.meaning self.old) (write_call row start (map S.Symbol.Field.meaning symbols.now)) (answer_of result) (state S.Shelf.contents S.Symbol.Field.meaning self.new) }
         ensures exact { WriteExact S.Symbol.Field.algebra }
     {
         self.ready()?;
@@ -218,7 +218,7 @@ where
 
     // Checks from cards alone that parity fits.
     pub fn cross(&self) -> Result<(), Refusal>
-        ensures promise { Promise S.Symbol.Field.algebra (state S.Shelf.contents S.Symbol.Field.meaning self.now) cross-call (answer-of result) (state S.Shelf.contents S.Symbol.Field.meaning self.now) }
+        ensures promise { Promise S.Symbol.Field.algebra (state S.Shelf.contents S.Symbol.Field.meaning self.now) cross_call (answer_of result) (state S.Shelf.contents S.Symbol.Field.meaning self.now) }
         ensures accepts { CrossAccepts S.Symbol.Field.algebra }
     {
         self.ready()?;
@@ -245,7 +245,7 @@ where
 
     // Begins a round at row 0, on a sheet where nothing is read.
     pub fn begin(&mut self) -> Result<(), Refusal>
-        ensures { Promise S.Symbol.Field.algebra (state S.Shelf.contents S.Symbol.Field.meaning self.old) begin-call (answer-of result) (state S.Shelf.contents S.Symbol.Field.meaning self.new) }
+        ensures { Promise S.Symbol.Field.algebra (state S.Shelf.contents S.Symbol.Field.meaning self.old) begin_call (answer_of result) (state S.Shelf.contents S.Symbol.Field.meaning self.new) }
     {
         self.ready()?;
         let rows = self.rows();
@@ -256,7 +256,7 @@ where
 
     // Audits the row that the round walks at, enters the verdict, and goes on to the next row or to over.
     pub fn step(&mut self) -> Result<Verdict, Refusal>
-        ensures { Promise S.Symbol.Field.algebra (state S.Shelf.contents S.Symbol.Field.meaning self.old) step-call (answer-by judged result) (state S.Shelf.contents S.Symbol.Field.meaning self.new) }
+        ensures { Promise S.Symbol.Field.algebra (state S.Shelf.contents S.Symbol.Field.meaning self.old) step_call (answer_by judged result) (state S.Shelf.contents S.Symbol.Field.meaning self.new) }
     {
         self.ready()?;
         let rows = self.rows();
@@ -268,7 +268,7 @@ where
 
     // How many rows the round found sound, and how many it did not.
     pub fn totals(&mut self) -> Result<(usize, usize), Refusal>
-        ensures promise { Promise S.Symbol.Field.algebra (state S.Shelf.contents S.Symbol.Field.meaning self.old) totals-call (answer-by counts-of result) (state S.Shelf.contents S.Symbol.Field.meaning self.new) }
+        ensures promise { Promise S.Symbol.Field.algebra (state S.Shelf.contents S.Symbol.Field.meaning self.old) totals_call (answer_by counts_of result) (state S.Shelf.contents S.Symbol.Field.meaning self.new) }
         ensures round { RoundExact S.Symbol.Field.algebra }
     {
         self.ready()?;
@@ -279,7 +279,7 @@ where
 
     // What the sheet says of a row.
     pub fn record(&self, row: usize) -> Result<Entry, Refusal>
-        ensures { Promise S.Symbol.Field.algebra (state S.Shelf.contents S.Symbol.Field.meaning self.now) (record-call row) (answer-by entry-is result) (state S.Shelf.contents S.Symbol.Field.meaning self.now) }
+        ensures { Promise S.Symbol.Field.algebra (state S.Shelf.contents S.Symbol.Field.meaning self.now) (record_call row) (answer_by entry_is result) (state S.Shelf.contents S.Symbol.Field.meaning self.now) }
     {
         self.ready()?;
         if row >= self.rows() {
@@ -290,7 +290,7 @@ where
 
     // The lowest row that the sheet has as not sound.
     pub fn first(&self) -> Result<Option<usize>, Refusal>
-        ensures { Promise S.Symbol.Field.algebra (state S.Shelf.contents S.Symbol.Field.meaning self.now) first-call (answer-by lowest-is result) (state S.Shelf.contents S.Symbol.Field.meaning self.now) }
+        ensures { Promise S.Symbol.Field.algebra (state S.Shelf.contents S.Symbol.Field.meaning self.now) first_call (answer_by lowest_is result) (state S.Shelf.contents S.Symbol.Field.meaning self.now) }
     {
         self.ready()?;
         Ok(self.sheet.first_unsound(self.rows()))
@@ -298,7 +298,7 @@ where
 
     // Puts back every row that is not sound, block and card, from the rows that are. It audits all rows afresh and never looks at the sheet.
     pub fn mend(&mut self) -> Result<usize, Refusal>
-        ensures promise { Promise S.Symbol.Field.algebra (state S.Shelf.contents S.Symbol.Field.meaning self.old) mend-call (answer-by mended result) (state S.Shelf.contents S.Symbol.Field.meaning self.new) }
+        ensures promise { Promise S.Symbol.Field.algebra (state S.Shelf.contents S.Symbol.Field.meaning self.old) mend_call (answer_by mended result) (state S.Shelf.contents S.Symbol.Field.meaning self.new) }
         ensures exact { MendExact S.Symbol.Field.algebra }
         ensures answered { (q : ℕ) (F : Algebra (Below q)) → Answered F }
         ensures law { (q : ℕ) (F : Algebra (Below q)) → Faithful F }

@@ -3,23 +3,23 @@ use Rattle.std.proofs.Common.{◌≡◌, ℕ, zero, suc, ◌+◌, ◌<◌, ◌�
 use mathlib.Core.List.Memᴰ.{head as here}
 use native.Mathlib.Decide.{ℕ_discrete}
 use Rattle.std.proofs.lemmas.Bool.{both_ways, and_parts, eqb-true, eq-eqb, ltb-true, not-true}
-use Rattle.algebra.specs.Below.{Below, same-below}
+use Rattle.algebra.specs.Below.{Below, same_below}
 use Rattle.algebra.proofs.Cases.{by_cases}
 use Rattle.shelves.specs.Contents.{Cell, symbol, hole, within, filled}
-use Rattle.shelves.proofs.Contents.{same-contents}
-use Rattle.rules.specs.Twins.{Equal, Struck, card-off, block-off}
+use Rattle.shelves.proofs.Contents.{same_contents}
+use Rattle.rules.specs.Twins.{Equal, Struck, card_off, block_off}
 
 -- a test passes at every number below a bound
 abbrev pub each : ℕ → (ℕ → Bool) → Bool
 each zero test = true
 each (suc n) test = each n test && test n
 
-pub each-true : (n : ℕ) (test : ℕ → Bool) → each n test ≡ true → (i : ℕ) → i < n → test i ≡ true
-each-true zero test e i h = absurd (omega arith)
-each-true (suc n) test e i h =
+pub each_true : (n : ℕ) (test : ℕ → Bool) → each n test ≡ true → (i : ℕ) → i < n → test i ≡ true
+each_true zero test e i h = absurd (omega arith)
+each_true (suc n) test e i h =
     elim (ℕ_discrete i n) [
       | yes at ↦ ap test at ∙ (and_parts _ _ e).1
-      | no ne ↦ each-true n test (and_parts _ _ e).0 i (omega arith)
+      | no ne ↦ each_true n test (and_parts _ _ e).0 i (omega arith)
     ]
 
 module _ {q : ℕ} where
@@ -29,61 +29,61 @@ module _ {q : ℕ} where
   same hole (symbol y) = false
   same hole hole = true
 
-  pub same-true : (c d : Cell (Below q)) → same c d ≡ true → c ≡ d
-  same-true (symbol x) (symbol y) e = ap symbol (same-below x y (eqb-true _ _ e))
-  same-true (symbol x) hole e = absurd (both_ways false refl e)
-  same-true hole (symbol y) e = absurd (both_ways false refl e)
-  same-true hole hole e = refl
+  pub same_true : (c d : Cell (Below q)) → same c d ≡ true → c ≡ d
+  same_true (symbol x) (symbol y) e = ap symbol (same_below x y (eqb-true _ _ e))
+  same_true (symbol x) hole e = absurd (both_ways false refl e)
+  same_true hole (symbol y) e = absurd (both_ways false refl e)
+  same_true hole hole e = refl
 
-  pub same-false : (c d : Cell (Below q)) → same c d ≡ false → c ≡ d → ⊥
-  same-false (symbol x) (symbol y) e f = both_ways _ e (eq-eqb _ _ (value f))
+  pub same_false : (c d : Cell (Below q)) → same c d ≡ false → c ≡ d → ⊥
+  same_false (symbol x) (symbol y) e f = both_ways _ e (eq-eqb _ _ (value f))
     where
       value : symbol x ≡ symbol y → x.value ≡ y.value
       value f = let z : x ≡ y = cc in ap (λ b. b.value) z
-  same-false (symbol x) hole e f = let z : ◌≡◌ {A = ℕ} 0 1 = cc in omega arith
-  same-false hole (symbol y) e f = let z : ◌≡◌ {A = ℕ} 0 1 = cc in omega arith
-  same-false hole hole e f = both_ways true e refl
+  same_false (symbol x) hole e f = let z : ◌≡◌ {A = ℕ} 0 1 = cc in omega arith
+  same_false hole (symbol y) e f = let z : ◌≡◌ {A = ℕ} 0 1 = cc in omega arith
+  same_false hole hole e f = both_ways true e refl
 
   -- two tables hold the same in so many rows and places
   abbrev pub alike : ℕ → ℕ → (ℕ → ℕ → Cell (Below q)) → (ℕ → ℕ → Cell (Below q)) → Bool
   alike rows places f g = each rows (λ row. each places (λ place. same (f row place) (g row place)))
 
-  pub alike-contents : (rows places : ℕ) (f g : ℕ → ℕ → Cell (Below q)) → alike rows places f g ≡ true → filled rows places f ≡ filled rows places g
-  alike-contents rows places f g e =
-      same-contents (filled rows places f) (filled rows places g) refl refl (λ row place.
+  pub alike_contents : (rows places : ℕ) (f g : ℕ → ℕ → Cell (Below q)) → alike rows places f g ≡ true → filled rows places f ≡ filled rows places g
+  alike_contents rows places f g e =
+      same_contents (filled rows places f) (filled rows places g) refl refl (λ row place.
       by_cases (within rows places row place)
       (λ is. let inside = and_parts _ _ is in
-      rw is (same-true _ _ (each-true places _ (each-true rows _ e row (ltb-true _ _ inside.0)) place (ltb-true _ _ inside.1))))
+      rw is (same_true _ _ (each_true places _ (each_true rows _ e row (ltb-true _ _ inside.0)) place (ltb-true _ _ inside.1))))
       (λ out. rw out))
 
   -- a row holds what it should
   abbrev pub whole : ℕ → (ℕ → Cell (Below q)) → (ℕ → Below q) → Bool
   whole places cells owed = each places (λ place. same (cells place) (symbol (owed place)))
 
-  pub whole-equal : (n m : ℕ) (cells : ℕ → Cell (Below q)) (owed : ℕ → Below q) → whole (n + m) cells owed ≡ true → Equal n m cells owed
-  whole-equal n m cells owed e place l = same-true _ _ (each-true (n + m) _ e place l)
+  pub whole_equal : (n m : ℕ) (cells : ℕ → Cell (Below q)) (owed : ℕ → Below q) → whole (n + m) cells owed ≡ true → Equal n m cells owed
+  whole_equal n m cells owed e place l = same_true _ _ (each_true (n + m) _ e place l)
 
   -- it holds what it should but at one place
-  abbrev pub whole-but : ℕ → ℕ → (ℕ → Cell (Below q)) → (ℕ → Below q) → Bool
-  whole-but place places cells owed = each places (λ t. eqb t place || same (cells t) (symbol (owed t))) && not (same (cells place) (symbol (owed place)))
+  abbrev pub whole_but : ℕ → ℕ → (ℕ → Cell (Below q)) → (ℕ → Below q) → Bool
+  whole_but place places cells owed = each places (λ t. eqb t place || same (cells t) (symbol (owed t))) && not (same (cells place) (symbol (owed place)))
 
-  module _ (n m : ℕ) (cells : ℕ → Cell (Below q)) (owed : ℕ → Below q) (place : ℕ) (e : whole-but place (n + m) cells owed ≡ true) where
+  module _ (n m : ℕ) (cells : ℕ → Cell (Below q)) (owed : ℕ → Below q) (place : ℕ) (e : whole_but place (n + m) cells owed ≡ true) where
     elsewhere : (t : ℕ) → t < n + m → (cells t ≡ symbol (owed t)) ⊎ (t ≡ place)
     elsewhere t l =
         by_cases (eqb t place)
         (λ here. inr (eqb-true t place here))
-        (λ there. inl (same-true _ _ (rw there at (each-true (n + m) (λ u. eqb u place || same (cells u) (symbol (owed u))) (and_parts _ _ e).0 t l))))
+        (λ there. inl (same_true _ _ (rw there at (each_true (n + m) (λ u. eqb u place || same (cells u) (symbol (owed u))) (and_parts _ _ e).0 t l))))
 
     differs : cells place ≡ symbol (owed place) → ⊥
-    differs = same-false _ _ (not-true _ (and_parts _ _ e).1)
+    differs = same_false _ _ (not-true _ (and_parts _ _ e).1)
 
-    there-same : (t : ℕ) → t < n + m → (t ≡ place → ⊥) → cells t ≡ symbol (owed t)
-    there-same t l ne = elim (elsewhere t l) [ inl same ↦ same | inr at ↦ absurd (ne at) ]
+    there_same : (t : ℕ) → t < n + m → (t ≡ place → ⊥) → cells t ≡ symbol (owed t)
+    there_same t l ne = elim (elsewhere t l) [ inl same ↦ same | inr at ↦ absurd (ne at) ]
 
-    pub block-struck : place < n → 1 ≤ m → Struck n m cells owed
-    block-struck l some =
-        block-off (λ t low high. there-same t high (λ at. omega arith)) (place ∷ []) some
+    pub block_struck : place < n → 1 ≤ m → Struck n m cells owed
+    block_struck l some =
+        block_off (λ t low high. there_same t high (λ at. omega arith)) (place ∷ []) some
         (λ t lt. elim (elsewhere t (omega arith)) [ inl same ↦ inl same | inr at ↦ inr (here at) ]) place l differs
 
-    pub card-struck : n ≤ place → place < n + m → Struck n m cells owed
-    card-struck low high = card-off (λ t lt. there-same t (omega arith) (λ at. omega arith)) place low high differs
+    pub card_struck : n ≤ place → place < n + m → Struck n m cells owed
+    card_struck low high = card_off (λ t lt. there_same t (omega arith) (λ at. omega arith)) place low high differs

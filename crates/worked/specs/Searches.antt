@@ -1,6 +1,6 @@
 -- What the searches of the rules come to: a refusal names the lowest row, and then the lowest place.
 use Rattle.std.specs.Prelude.{◌≡◌, ℕ, ◌<◌, Bool, true, false, Some, None, Option}
-use Rattle.rules.specs.Search.{lowest, lowest-pair}
+use Rattle.rules.specs.Search.{lowest, lowest_pair}
 
 -- What was found passes a test and is the lowest below a bound that does; where nothing was found, nothing below the bound does.
 abbrev pub IsLowest : ℕ → (ℕ → Bool) → Option ℕ → Type 0
@@ -14,7 +14,7 @@ IsLowestPair rows places test (Some x) =
     (x.0 < rows) × (x.1 < places) × (test x.0 x.1 ≡ true)
     × ((t : ℕ) → t < x.1 → test x.0 t ≡ false) × ((r t : ℕ) → r < x.0 → t < places → test r t ≡ false)
 
-abbrev pub Lowests-are-lowest : Type 0
-Lowests-are-lowest =
+abbrev pub LowestsAreLowest : Type 0
+LowestsAreLowest =
     ((bound : ℕ) (test : ℕ → Bool) → IsLowest bound test (lowest bound test))
-    × ((rows places : ℕ) (test : ℕ → ℕ → Bool) → IsLowestPair rows places test (lowest-pair rows places test))
+    × ((rows places : ℕ) (test : ℕ → ℕ → Bool) → IsLowestPair rows places test (lowest_pair rows places test))

@@ -6,18 +6,18 @@ ghost use Rattle.algebra.specs.Algebra.{Field as Algebra};
 ghost use Rattle.algebra.specs.Below.{Below};
 ghost use Rattle.rules.specs.Parity.{FirstRowOnes, FirstRowSums};
 ghost use Rattle.rules.specs.Twins.{GoesOn};
-ghost use Rattle.worked.specs.Examples.{Worked-examples};
-ghost use Rattle.worked.specs.Run.{Example-run};
-ghost use Rattle.worked.specs.Searches.{Lowests-are-lowest};
+ghost use Rattle.worked.specs.Examples.{WorkedExamples};
+ghost use Rattle.worked.specs.Run.{ExampleRun};
+ghost use Rattle.worked.specs.Searches.{LowestsAreLowest};
 
 // The worked examples of products, inverse, cards, coefficients, parity and a write hold. Those of spans and of mend are steps of the run below; those of fit are tested.
 pub fn worked_examples_hold()
-    ensures { Worked-examples }
+    ensures { WorkedExamples }
 {}
 
 // The example image goes through an intake, writes, damage of each kind, a refused write, a refused mend and a mend, and ends equal to its twin.
 pub fn example_run_holds()
-    ensures { Example-run }
+    ensures { ExampleRun }
 {}
 
 // Parity row 0 is the plain sum of the data rows, over every field.
@@ -33,5 +33,5 @@ pub fn runs_go_on()
 
 // What a refusal names is the lowest row, and then the lowest place.
 pub fn searches_find_the_lowest()
-    ensures { Lowests-are-lowest }
+    ensures { LowestsAreLowest }
 {}

@@ -4,7 +4,7 @@
 ghost use Rattle.std.specs.Prelude.{◌≡◌, ℕ, ◌+◌, ◌<◌, ◌≤◌, map};
 ghost use Rattle.rules.specs.Views.{seen};
 ghost use Rattle.rules.specs.declared.Sizes.{Sizes as SizesOf};
-ghost use Rattle.writes.specs.Steps.{Puts, Readable, cells-of, place-grown, card-grown, row-grown, OneWritten, AllWritten};
+ghost use Rattle.writes.specs.Steps.{Puts, Readable, cells_of, place_grown, card_grown, row_grown, OneWritten, AllWritten};
 ghost use Rattle.writes.specs.Weights.{PowersAt, Bases, Column};
 
 use algebra::Field;
@@ -64,7 +64,7 @@ fn powers_at<F: Field>(place: usize, bases: &[usize; 8], card_length: usize) -> 
 fn grow<S: Shelf>(shelf: &mut S, row: usize, place: usize, change: S::Symbol)
 where
     S::Symbol: Field,
-    ensures { (sizes : SizesOf) → Puts S.Symbol.Field.meaning (Readable S.Symbol.Field.algebra S.Symbol.Field.meaning sizes (S.Shelf.contents shelf.old) row × (place < sizes.block_length + sizes.card_length)) (place-grown S.Symbol.Field.algebra (seen S.Symbol.Field.meaning sizes (S.Shelf.contents shelf.old)) row place (S.Symbol.Field.meaning change) (cells-of S.Symbol.Field.meaning (S.Shelf.contents shelf.old))) (S.Shelf.contents shelf.old) (S.Shelf.contents shelf.new) }
+    ensures { (sizes : SizesOf) → Puts S.Symbol.Field.meaning (Readable S.Symbol.Field.algebra S.Symbol.Field.meaning sizes (S.Shelf.contents shelf.old) row × (place < sizes.block_length + sizes.card_length)) (place_grown S.Symbol.Field.algebra (seen S.Symbol.Field.meaning sizes (S.Shelf.contents shelf.old)) row place (S.Symbol.Field.meaning change) (cells_of S.Symbol.Field.meaning (S.Shelf.contents shelf.old))) (S.Shelf.contents shelf.old) (S.Shelf.contents shelf.new) }
 {
     let symbol = symbol_at(shelf, row, place).sum(change);
     let _ = shelf.put(row, place, symbol);
@@ -80,7 +80,7 @@ fn grow_card<S: Shelf>(
 )
 where
     S::Symbol: Field,
-    ensures { (place : ℕ) → Puts S.Symbol.Field.meaning (Readable S.Symbol.Field.algebra S.Symbol.Field.meaning sizes (S.Shelf.contents shelf.old) row × PowersAt S.Symbol.Field.algebra sizes.card_length place powers.now) (card-grown S.Symbol.Field.algebra (seen S.Symbol.Field.meaning sizes (S.Shelf.contents shelf.old)) row place (S.Symbol.Field.meaning change) sizes.card_length (cells-of S.Symbol.Field.meaning (S.Shelf.contents shelf.old))) (S.Shelf.contents shelf.old) (S.Shelf.contents shelf.new) }
+    ensures { (place : ℕ) → Puts S.Symbol.Field.meaning (Readable S.Symbol.Field.algebra S.Symbol.Field.meaning sizes (S.Shelf.contents shelf.old) row × PowersAt S.Symbol.Field.algebra sizes.card_length place powers.now) (card_grown S.Symbol.Field.algebra (seen S.Symbol.Field.meaning sizes (S.Shelf.contents shelf.old)) row place (S.Symbol.Field.meaning change) sizes.card_length (cells_of S.Symbol.Field.meaning (S.Shelf.contents shelf.old))) (S.Shelf.contents shelf.old) (S.Shelf.contents shelf.new) }
 {
     for component in 0..sizes.card_length.min(8) {
         let weight: S::Symbol = element(powers[component]);
@@ -104,7 +104,7 @@ fn grow_row<S: Shelf>(
 )
 where
     S::Symbol: Field,
-    ensures { Puts S.Symbol.Field.meaning (Readable S.Symbol.Field.algebra S.Symbol.Field.meaning sizes (S.Shelf.contents shelf.old) row × (place < sizes.block_length) × PowersAt S.Symbol.Field.algebra sizes.card_length place powers.now) (row-grown S.Symbol.Field.algebra (seen S.Symbol.Field.meaning sizes (S.Shelf.contents shelf.old)) row place (S.Symbol.Field.meaning change) (cells-of S.Symbol.Field.meaning (S.Shelf.contents shelf.old))) (S.Shelf.contents shelf.old) (S.Shelf.contents shelf.new) }
+    ensures { Puts S.Symbol.Field.meaning (Readable S.Symbol.Field.algebra S.Symbol.Field.meaning sizes (S.Shelf.contents shelf.old) row × (place < sizes.block_length) × PowersAt S.Symbol.Field.algebra sizes.card_length place powers.now) (row_grown S.Symbol.Field.algebra (seen S.Symbol.Field.meaning sizes (S.Shelf.contents shelf.old)) row place (S.Symbol.Field.meaning change) (cells_of S.Symbol.Field.meaning (S.Shelf.contents shelf.old))) (S.Shelf.contents shelf.old) (S.Shelf.contents shelf.new) }
 {
     grow(shelf, row, place, change);
     grow_card(shelf, sizes, row, powers, change);

@@ -1,7 +1,7 @@
 use Rattle.std.proofs.Common.{◌+◌, ◌*◌, ◌^◌, length, get_or, Some, sym, ap, ◌∙◌, arith, take_all, le-ltb}
 use mir.Facts.{Fits-below}
 use Rattle.algebra.specs.Code.{coded}
-use Rattle.algebra.proofs.Codes.{coded-more, next_power, power_below}
+use Rattle.algebra.proofs.Codes.{coded_more, next_power, power_below}
 use Rattle.algebra.proofs.read_code.Goals as goal
 
 pub overflow_mul-number : goal.overflow_mul-number
@@ -13,7 +13,7 @@ overflow_add-number c = Fits-below {n = 2 ^ 60} tt (omega (arith, power_below c.
 pub loop-byte-preserved : goal.loop-byte-preserved
 loop-byte-preserved c =
     let b = get_or c.args.from.now c.loop-byte.byte-index 0 in (
-      ap (λ v. v * 256 + b) c.loop-byte.invariant.0 ∙ sym (coded-more c.args.from.now c.loop-byte.byte-index (omega arith)),
+      ap (λ v. v * 256 + b) c.loop-byte.invariant.0 ∙ sym (coded_more c.args.from.now c.loop-byte.byte-index (omega arith)),
       next_power c.loop-byte.number c.loop-byte.byte-index b c.loop-byte.invariant.1 (omega arith),
     )
 

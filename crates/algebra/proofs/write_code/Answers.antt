@@ -2,7 +2,7 @@ use Rattle.std.proofs.Common.{◌-◌, ◌/◌, ◌%◌, ◌^◌, length, drop, 
 use native.Mathlib.Nat.{sub_self}
 use lib.Seq.{drop-length}
 use Rattle.algebra.specs.Code.{code}
-use Rattle.algebra.proofs.Codes.{rest_more, code-more}
+use Rattle.algebra.proofs.Codes.{rest_more, code_more}
 use Rattle.algebra.proofs.write_code.Goals as goal
 
 pub loop-i-init : goal.loop-i-init
@@ -15,5 +15,5 @@ loop-i-preserved c =
     let j = c.loop-i.i in
     let same = sym (length-set into (j - 1) (c.loop-i.rest % 256)) in (
       ap (λ r. r / 256) c.loop-i.invariant.0 ∙ rest_more v (length into) j (omega arith) (omega arith) ∙ ap (λ n. v / 256 ^ (n - (j - 1))) same,
-      ap (λ r. drop (j - 1) (set into (j - 1) (r % 256))) c.loop-i.invariant.0 ∙ code-more v j into (omega arith) (omega arith) c.loop-i.invariant.1 ∙ ap (λ n. code (n - (j - 1)) v) same,
+      ap (λ r. drop (j - 1) (set into (j - 1) (r % 256))) c.loop-i.invariant.0 ∙ code_more v j into (omega arith) (omega arith) c.loop-i.invariant.1 ∙ ap (λ n. code (n - (j - 1)) v) same,
     )

@@ -1,9 +1,9 @@
 use Rattle.std.proofs.Common.{◌+◌, length, sym, ap, ◌∙◌, subst₂, arith, length-set}
-use Rattle.rules.specs.Calls.{is-sound}
+use Rattle.rules.specs.Calls.{is_sound}
 use Rattle.rules.specs.States.{sound}
 use Rattle.rules.specs.Views.{seen}
 use Rattle.rules.proofs.Rows.{fitting}
-use Rattle.mending.proofs.Gathering.{Listed, listed-sound, listed-unsound, listed-past, listed-all}
+use Rattle.mending.proofs.Gathering.{Listed, listed_sound, listed_unsound, listed_past, listed_all}
 use Rattle.mending.proofs.gather.Goals as goal
 use Rattle.mending.proofs.gather.Goals.{then-not-is_sound, then-count-lt4, else-count-lt4, else-not-is_sound}
 
@@ -16,26 +16,26 @@ loop-row-preserved g c =
     elim c.if-not-is_sound.branch [
       | then-not-is_sound w ↦ elim w.if-count-lt4.branch [
         | then-count-lt4 v ↦ record {
-          length-kept = ap length (w.rows-is ∙ v.rows-is) ∙ length-set c.loop-row.rows c.loop-row.count row ∙ inv.length-kept;
+          length_kept = ap length (w.rows-is ∙ v.rows-is) ∙ length-set c.loop-row.rows c.loop-row.count row ∙ inv.length_kept;
           within = omega (arith, w.count-is);
           listed = λ fit.
               subst₂ (Listed (sound F s) (row + 1)) (sym (w.rows-is ∙ v.rows-is)) (sym w.count-is)
-              (listed-unsound (sound F s) row c.loop-row.rows c.loop-row.count (inv.listed fit) (ap is-sound (sym (c.audit.ensures fit)) ∙ sym c.is_sound.ensures ∙ w.if-not-is_sound.true) (omega (arith, v.if-count-lt4.true, inv.length-kept)));
+              (listed_unsound (sound F s) row c.loop-row.rows c.loop-row.count (inv.listed fit) (ap is_sound (sym (c.audit.ensures fit)) ∙ sym c.is_sound.ensures ∙ w.if-not-is_sound.true) (omega (arith, v.if-count-lt4.true, inv.length_kept)));
         }
         | else-count-lt4 v ↦ record {
-          length-kept = ap length (w.rows-is ∙ v.rows-is) ∙ inv.length-kept;
+          length_kept = ap length (w.rows-is ∙ v.rows-is) ∙ inv.length_kept;
           within = omega (arith, w.count-is);
           listed = λ fit.
               subst₂ (Listed (sound F s) (row + 1)) (sym (w.rows-is ∙ v.rows-is)) (sym w.count-is)
-              (listed-past (sound F s) row c.loop-row.rows c.loop-row.count (inv.listed fit) (ap is-sound (sym (c.audit.ensures fit)) ∙ sym c.is_sound.ensures ∙ w.if-not-is_sound.true) v.if-count-lt4.false);
+              (listed_past (sound F s) row c.loop-row.rows c.loop-row.count (inv.listed fit) (ap is_sound (sym (c.audit.ensures fit)) ∙ sym c.is_sound.ensures ∙ w.if-not-is_sound.true) v.if-count-lt4.false);
         }
       ]
       | else-not-is_sound w ↦ record {
-        length-kept = ap length w.rows-is ∙ inv.length-kept;
+        length_kept = ap length w.rows-is ∙ inv.length_kept;
         within = omega (arith, w.count-is);
         listed = λ fit.
             subst₂ (Listed (sound F s) (row + 1)) (sym w.rows-is) (sym w.count-is)
-            (listed-sound (sound F s) row c.loop-row.rows c.loop-row.count (inv.listed fit) (ap is-sound (sym (c.audit.ensures fit)) ∙ sym c.is_sound.ensures ∙ w.if-not-is_sound.false));
+            (listed_sound (sound F s) row c.loop-row.rows c.loop-row.count (inv.listed fit) (ap is_sound (sym (c.audit.ensures fit)) ∙ sym c.is_sound.ensures ∙ w.if-not-is_sound.false));
       }
     ]
 
@@ -44,4 +44,4 @@ returns g c fit =
     let F = g.S.Symbol.Field.algebra in
     let s = seen g.S.Symbol.Field.meaning c.args.sizes (g.S.Shelf.contents c.args.shelf.now) in
     let f = fitting F s fit in
-    listed-all F s _ c.loop-row.row (omega (arith, c.saturating_add-row-end.ensures, f.k-high, f.p-high)) (c.loop-row.invariant.listed fit)
+    listed_all F s _ c.loop-row.row (omega (arith, c.saturating_add-row-end.ensures, f.k_high, f.p_high)) (c.loop-row.invariant.listed fit)

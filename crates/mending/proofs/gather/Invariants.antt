@@ -8,7 +8,7 @@ abbrev pub invariant-loop-row : goal.invariant-loop-row
 invariant-loop-row g l =
     let F = g.S.Symbol.Field.algebra in
     let s = seen g.S.Symbol.Field.meaning l.sizes (g.S.Shelf.contents l.shelf) in record {
-      length-kept : length l.rows ≡ 4;
+      length_kept : length l.rows ≡ 4;
       within : l.count ≤ l.row;
       listed : fits F s ≡ true → Listed (sound F s) l.row l.rows l.count;
     }

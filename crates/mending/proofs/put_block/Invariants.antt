@@ -1,7 +1,7 @@
 use Rattle.std.proofs.Common.{◌+◌, ◌<◌}
 use Rattle.rows.specs.Cards.{Holds}
 use Rattle.mending.specs.Stored.{stored}
-use Rattle.mending.specs.Puts.{block-cells}
+use Rattle.mending.specs.Puts.{block_cells}
 use Rattle.mending.proofs.put_block.Given as goal
 
 abbrev pub invariant-loop-place : goal.invariant-loop-place
@@ -9,4 +9,4 @@ invariant-loop-place g l =
     let F = g.S.Symbol.Field.algebra in
     let meaning = g.S.Symbol.Field.meaning in
     let before = g.S.Shelf.contents l.initial.shelf in
-    l.row < l.fn.sizes.data_rows + l.fn.sizes.parity_rows → Holds F meaning l.fn.sizes before (block-cells F meaning l.fn.sizes (stored F l.weights) l.row before l.place) (g.S.Shelf.contents l.shelf)
+    l.row < l.fn.sizes.data_rows + l.fn.sizes.parity_rows → Holds F meaning l.fn.sizes before (block_cells F meaning l.fn.sizes (stored F l.weights) l.row before l.place) (g.S.Shelf.contents l.shelf)

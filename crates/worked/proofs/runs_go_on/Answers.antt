@@ -1,5 +1,5 @@
-use Rattle.rules.proofs.Going.{goes-on}
+use Rattle.rules.proofs.Going.{goes_on}
 use Rattle.worked.proofs.runs_go_on.Goals as goal
 
 pub returns : goal.returns
-returns c q F = goes-on F
+returns c q F = goes_on F

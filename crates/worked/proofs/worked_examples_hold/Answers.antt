@@ -1,36 +1,36 @@
 use mathlib.Core.Path.{refl}
-use Rattle.algebra.specs.Modular.{inverse-by}
-use Rattle.algebra.specs.Polynomial.{polynomial-product, product-of-bits, remainder}
+use Rattle.algebra.specs.Modular.{inverse_by}
+use Rattle.algebra.specs.Polynomial.{polynomial_product, product_of_bits, remainder}
 use Rattle.byte_field.specs.Product.{◌·◌, squares, inverse}
 use Rattle.worked.proofs.worked_examples_hold.Goals as goal
 
 pub returns : goal.returns
-unfolding ◌·◌ squares inverse polynomial-product product-of-bits remainder inverse-by
+unfolding ◌·◌ squares inverse polynomial_product product_of_bits remainder inverse_by
 returns c = record {
-  byte-2-by-128 = refl;
-  byte-5-by-166 = refl;
-  counter-65536-squared = refl;
-  counter-inverse-of-3 = refl;
-  byte-card-0 = refl;
-  byte-card-1 = refl;
-  byte-card-2 = refl;
-  counter-card-0 = refl;
-  counter-card-1 = refl;
-  counter-card-2 = refl;
-  same-card-0 = refl;
-  same-card-1 = refl;
-  byte-g-1-0 = refl;
-  byte-g-1-1 = refl;
-  counter-g-1-0 = refl;
-  counter-g-1-1 = refl;
-  fits-0-0 = refl;
-  fits-0-1 = refl;
-  fits-0-2 = refl;
-  fits-1-0 = refl;
-  fits-1-1 = refl;
-  fits-1-2 = refl;
-  seven-card-0 = refl;
-  seven-card-1 = refl;
-  seven-parity-0 = refl;
-  seven-parity-1 = refl;
+  byte_2_by_128 = refl;
+  byte_5_by_166 = refl;
+  counter_65536_squared = refl;
+  counter_inverse_of_3 = refl;
+  byte_card_0 = refl;
+  byte_card_1 = refl;
+  byte_card_2 = refl;
+  counter_card_0 = refl;
+  counter_card_1 = refl;
+  counter_card_2 = refl;
+  same_card_0 = refl;
+  same_card_1 = refl;
+  byte_g_1_0 = refl;
+  byte_g_1_1 = refl;
+  counter_g_1_0 = refl;
+  counter_g_1_1 = refl;
+  fits_0_0 = refl;
+  fits_0_1 = refl;
+  fits_0_2 = refl;
+  fits_1_0 = refl;
+  fits_1_1 = refl;
+  fits_1_2 = refl;
+  seven_card_0 = refl;
+  seven_card_1 = refl;
+  seven_parity_0 = refl;
+  seven_parity_1 = refl;
 }

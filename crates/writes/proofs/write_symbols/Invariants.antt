@@ -2,7 +2,7 @@ use Rattle.std.proofs.Common.{◌+◌, ◌≤◌, length, take}
 use Rattle.std.specs.Prelude.{map}
 use Rattle.rules.specs.Updates.{written}
 use Rattle.rules.specs.Views.{seen}
-use Rattle.writes.specs.Steps.{Puts, Writable, cells-of}
+use Rattle.writes.specs.Steps.{Puts, Writable, cells_of}
 use Rattle.writes.specs.Weights.{PowersAt}
 use Rattle.writes.proofs.write_symbols.Given as goal
 
@@ -13,4 +13,4 @@ invariant-loop-i g l =
     let before = g.S.Shelf.contents l.initial.shelf in
     (l.sizes.card_length ≤ 8 → PowersAt F l.sizes.card_length (l.start + l.i) l.powers)
     × Puts meaning (Writable F meaning l.sizes before l.row × (l.start + length l.symbols ≤ l.sizes.block_length))
-    (written F (seen meaning l.sizes before) l.row l.start (map meaning (take l.i l.symbols)) (cells-of meaning before)) before (g.S.Shelf.contents l.shelf)
+    (written F (seen meaning l.sizes before) l.row l.start (map meaning (take l.i l.symbols)) (cells_of meaning before)) before (g.S.Shelf.contents l.shelf)

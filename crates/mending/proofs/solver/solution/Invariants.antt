@@ -6,6 +6,6 @@ use Rattle.mending.proofs.solver.solution.Given as goal
 abbrev pub invariant-loop-j : goal.invariant-loop-j
 invariant-loop-j g l =
     let F = g.F.Field.algebra in record {
-      length-kept : length l.solution ≡ 4;
+      length_kept : length l.solution ≡ 4;
       here : l.size ≤ 4 → (j : ℕ) → j < l.j → stored F l.solution j ≡ F.mul (F.inv (minus F F.zer (stored F l.columns j))) (stored F l.unknowns j);
     }

@@ -1,15 +1,15 @@
 use Rattle.std.proofs.Common.{◌≤◌, refl, sym, ◌∙◌, arith}
 use Rattle.rules.specs.Calls.{mend}
-use Rattle.rules.specs.States.{new, p, n, unsound-count}
-use Rattle.rules.specs.Updates.{worked-misfit}
+use Rattle.rules.specs.States.{new, p, n, unsound_count}
+use Rattle.rules.specs.Updates.{worked_misfit}
 use Rattle.rules.proofs.Answered.{answered}
-use Rattle.rules.proofs.Found.{lowest-pair-some}
+use Rattle.rules.proofs.Found.{lowest_pair_some}
 use Rattle.rules.proofs.Law.{faithful}
-use Rattle.rules.proofs.Mend.{mend-exact}
+use Rattle.rules.proofs.Mend.{mend_exact}
 use Rattle.rules.proofs.Rows.{fitting}
-use Rattle.rules.proofs.Working.{worked-blocks, worked-exist}
+use Rattle.rules.proofs.Working.{worked_blocks, worked_exist}
 use Rattle.tray.specs.State.{state}
-use Rattle.tray.proofs.Mending.{mend-many, mend-misfit, mend-done, worked-new, new-worked, enough-gathered}
+use Rattle.tray.proofs.Mending.{mend_many, mend_misfit, mend_done, worked_new, new_worked, enough_gathered}
 use Rattle.tray.proofs.Tray.mend.Goals as goal
 
 pub returns-then-damage-self-clause-promise : goal.returns-then-damage-self-clause-promise
@@ -20,7 +20,7 @@ returns-then-damage-self-clause-promise g c =
     let fit = c.in_ok-ready.ensures.0 in
     let taken = c.in_ok-ready.ensures.1 in
     let gathered = c.gather-damage.ensures fit in
-    mend-many F s fit taken c.gather-damage.result.count gathered.count c.if-damage-self.true
+    mend_many F s fit taken c.gather-damage.result.count gathered.count c.if-damage-self.true
 
 pub returns-then-damage-self-clause-after_runs : goal.returns-then-damage-self-clause-after_runs
 returns-then-damage-self-clause-after_runs g c = (faithful g.S.Symbol.Field.algebra (state g.S.Shelf.contents g.S.Symbol.Field.meaning c.args.self.now)).1 _ _ (returns-then-damage-self-clause-promise g c)
@@ -33,14 +33,14 @@ returns-in-Some-clause-promise g c =
     let fit = c.in_ok-ready.ensures.0 in
     let taken = c.in_ok-ready.ensures.1 in
     let gathered = c.gather-damage.ensures fit in
-    let few : unsound-count F s ≤ p s = omega (arith, gathered.count, c.if-damage-self.false) in
+    let few : unsound_count F s ≤ p s = omega (arith, gathered.count, c.if-damage-self.false) in
     let f = fitting F s fit in
-    let planned = c.make_plan-plan.ensures f.k-high f.p-high f.enough (enough-gathered F s _ (gathered.rows (omega (arith, few, f.p-high))) few) in
+    let planned = c.make_plan-plan.ensures f.k_high f.p_high f.enough (enough_gathered F s _ (gathered.rows (omega (arith, few, f.p_high))) few) in
     let found = c.first_worked_misfit.ensures fit few gathered planned in
-    let blocks = worked-blocks F (new s.sizes s.contents) fit few in
-    let worked = worked-exist F (new s.sizes s.contents) fit few in
-    let low = lowest-pair-some (p s) (n s) (worked-misfit F s blocks) c.in-Some.i c.in-Some.place (sym (found blocks worked) ∙ c.in-Some.is) in
-    mend-misfit F s fit taken few c.first_worked_misfit.result (λ b w. found b (worked-new F s b w)) blocks (new-worked F s blocks worked) c.in-Some.i c.in-Some.place c.saturating_add.result (omega (arith, c.saturating_add.ensures, low.0)) c.in-Some.is
+    let blocks = worked_blocks F (new s.sizes s.contents) fit few in
+    let worked = worked_exist F (new s.sizes s.contents) fit few in
+    let low = lowest_pair_some (p s) (n s) (worked_misfit F s blocks) c.in-Some.i c.in-Some.place (sym (found blocks worked) ∙ c.in-Some.is) in
+    mend_misfit F s fit taken few c.first_worked_misfit.result (λ b w. found b (worked_new F s b w)) blocks (new_worked F s blocks worked) c.in-Some.i c.in-Some.place c.saturating_add.result (omega (arith, c.saturating_add.ensures, low.0)) c.in-Some.is
 
 pub returns-in-Some-clause-after_runs : goal.returns-in-Some-clause-after_runs
 returns-in-Some-clause-after_runs g c = (faithful g.S.Symbol.Field.algebra (state g.S.Shelf.contents g.S.Symbol.Field.meaning c.args.self.now)).1 _ _ (returns-in-Some-clause-promise g c)
@@ -53,13 +53,13 @@ returns-clause-promise g c =
     let fit = c.in_ok-ready.ensures.0 in
     let taken = c.in_ok-ready.ensures.1 in
     let gathered = c.gather-damage.ensures fit in
-    let few : unsound-count F s ≤ p s = omega (arith, gathered.count, c.if-damage-self.false) in
+    let few : unsound_count F s ≤ p s = omega (arith, gathered.count, c.if-damage-self.false) in
     let f = fitting F s fit in
-    let planned = c.make_plan-plan.ensures f.k-high f.p-high f.enough (enough-gathered F s _ (gathered.rows (omega (arith, few, f.p-high))) few) in
+    let planned = c.make_plan-plan.ensures f.k_high f.p_high f.enough (enough_gathered F s _ (gathered.rows (omega (arith, few, f.p_high))) few) in
     let found = c.first_worked_misfit.ensures fit few gathered planned in
-    let blocks = worked-blocks F (new s.sizes s.contents) fit few in
-    let worked = worked-exist F (new s.sizes s.contents) fit few in
-    mend-done F s fit taken few c.first_worked_misfit.result (λ b w. found b (worked-new F s b w)) c.in_default.is blocks (new-worked F s blocks worked) c.gather-damage.result.count gathered.count _
+    let blocks = worked_blocks F (new s.sizes s.contents) fit few in
+    let worked = worked_exist F (new s.sizes s.contents) fit few in
+    mend_done F s fit taken few c.first_worked_misfit.result (λ b w. found b (worked_new F s b w)) c.in_default.is blocks (new_worked F s blocks worked) c.gather-damage.result.count gathered.count _
     (c.put_rows.ensures fit few gathered planned blocks worked)
 
 pub returns-clause-after_runs : goal.returns-clause-after_runs
@@ -70,7 +70,7 @@ returns-in_err-ready-clause-after_runs g c =
     (faithful g.S.Symbol.Field.algebra (state g.S.Shelf.contents g.S.Symbol.Field.meaning c.args.self.now)).1 _ _ (c.in_err-ready.ensures mend refl)
 
 pub returns-in_err-ready-clause-exact : goal.returns-in_err-ready-clause-exact
-returns-in_err-ready-clause-exact g c = mend-exact g.S.Symbol.Field.algebra
+returns-in_err-ready-clause-exact g c = mend_exact g.S.Symbol.Field.algebra
 
 pub returns-in_err-ready-clause-answered : goal.returns-in_err-ready-clause-answered
 returns-in_err-ready-clause-answered g c q F = answered F
@@ -79,7 +79,7 @@ pub returns-in_err-ready-clause-law : goal.returns-in_err-ready-clause-law
 returns-in_err-ready-clause-law g c q F = faithful F
 
 pub returns-then-damage-self-clause-exact : goal.returns-then-damage-self-clause-exact
-returns-then-damage-self-clause-exact g c = mend-exact g.S.Symbol.Field.algebra
+returns-then-damage-self-clause-exact g c = mend_exact g.S.Symbol.Field.algebra
 
 pub returns-then-damage-self-clause-answered : goal.returns-then-damage-self-clause-answered
 returns-then-damage-self-clause-answered g c q F = answered F
@@ -88,7 +88,7 @@ pub returns-then-damage-self-clause-law : goal.returns-then-damage-self-clause-l
 returns-then-damage-self-clause-law g c q F = faithful F
 
 pub returns-in-Some-clause-exact : goal.returns-in-Some-clause-exact
-returns-in-Some-clause-exact g c = mend-exact g.S.Symbol.Field.algebra
+returns-in-Some-clause-exact g c = mend_exact g.S.Symbol.Field.algebra
 
 pub returns-in-Some-clause-answered : goal.returns-in-Some-clause-answered
 returns-in-Some-clause-answered g c q F = answered F
@@ -97,7 +97,7 @@ pub returns-in-Some-clause-law : goal.returns-in-Some-clause-law
 returns-in-Some-clause-law g c q F = faithful F
 
 pub returns-clause-exact : goal.returns-clause-exact
-returns-clause-exact g c = mend-exact g.S.Symbol.Field.algebra
+returns-clause-exact g c = mend_exact g.S.Symbol.Field.algebra
 
 pub returns-clause-answered : goal.returns-clause-answered
 returns-clause-answered g c q F = answered F

@@ -1,8 +1,8 @@
 use Rattle.std.proofs.Common.{sym, ◌∙◌}
 use Rattle.std.proofs.lemmas.Result.{err_from_is_err_and}
 use Rattle.tray.specs.State.{state}
-use Rattle.tray.proofs.Answering.{row-count, totals-refused, totals-counted}
-use Rattle.rules.proofs.Rounds.{round-exact}
+use Rattle.tray.proofs.Answering.{row_count, totals_refused, totals_counted}
+use Rattle.rules.proofs.Rounds.{round_exact}
 use Rattle.tray.proofs.Tray.totals.Goals as goal
 
 pub returns-in_err-walked-clause-promise : goal.returns-in_err-walked-clause-promise
@@ -10,21 +10,21 @@ returns-in_err-walked-clause-promise g c =
     let s = state g.S.Shelf.contents g.S.Symbol.Field.meaning c.args.self.now in
     let q = err_from_is_err_and c.from_residual-in_err-walked.result c.from_residual-in_err-walked.ensures.1 in
     rw (q.1, q.2)
-    (totals-refused g.S.Symbol.Field.algebra s c.in_ok-ready.ensures.0 c.in_ok-ready.ensures.1 c.rows-rows.result c.act.new.self _ (sym c.act.ensures.answer ∙ c.in_err-walked.was) c.act.ensures.after)
+    (totals_refused g.S.Symbol.Field.algebra s c.in_ok-ready.ensures.0 c.in_ok-ready.ensures.1 c.rows-rows.result c.act.new.self _ (sym c.act.ensures.answer ∙ c.in_err-walked.was) c.act.ensures.after)
 
 pub returns-clause-promise : goal.returns-clause-promise
 returns-clause-promise g c =
     let F = g.S.Symbol.Field.algebra in
     let s = state g.S.Shelf.contents g.S.Symbol.Field.meaning c.args.self.now in
-    let all = row-count F s c.in_ok-ready.ensures.0 c.rows-rows.ensures in
-    totals-counted F s c.in_ok-ready.ensures.0 c.in_ok-ready.ensures.1 c.rows-rows.result c.act.new.self c.in_ok-walked.walked c.totals.result
+    let all = row_count F s c.in_ok-ready.ensures.0 c.rows-rows.ensures in
+    totals_counted F s c.in_ok-ready.ensures.0 c.in_ok-ready.ensures.1 c.rows-rows.result c.act.new.self c.in_ok-walked.walked c.totals.result
     (sym c.act.ensures.answer ∙ c.in_ok-walked.was) c.act.ensures.after all c.totals.ensures.sound c.totals.ensures.others
 
 pub returns-in_err-ready-clause-round : goal.returns-in_err-ready-clause-round
-returns-in_err-ready-clause-round g c = round-exact g.S.Symbol.Field.algebra
+returns-in_err-ready-clause-round g c = round_exact g.S.Symbol.Field.algebra
 
 pub returns-in_err-walked-clause-round : goal.returns-in_err-walked-clause-round
-returns-in_err-walked-clause-round g c = round-exact g.S.Symbol.Field.algebra
+returns-in_err-walked-clause-round g c = round_exact g.S.Symbol.Field.algebra
 
 pub returns-clause-round : goal.returns-clause-round
-returns-clause-round g c = round-exact g.S.Symbol.Field.algebra
+returns-clause-round g c = round_exact g.S.Symbol.Field.algebra
