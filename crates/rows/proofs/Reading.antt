@@ -1,5 +1,7 @@
 -- What a get says of a place.
-use Rattle.std.proofs.Common.{◌≡◌, ℕ, true, false, refl, arith}
+use Rattle.std.proofs.Common.{◌≡◌, ℕ, ◌+◌, Bool, true, false, refl, ap, arith, zero-add}
+use Rattle.rules.specs.Search.{lowest_pair}
+use Rattle.rules.proofs.Found.{lowest_pair_alike}
 use Rattle.algebra.proofs.Cases.{by_cases}
 use Rattle.shelves.specs.declared.Got.{Got}
 use Rattle.shelves.specs.declared.Got.TheVariants.{Symbol, Outside}
@@ -24,3 +26,7 @@ module _ {X : Type 0} (c : Contents X) (row place : ℕ) where
       of_cell : (v : Cell X) → g ≡ got v → is_hole v ≡ true
       of_cell (symbol y) k = absurd (none y k)
       of_cell hole k = refl
+
+-- a stretch that starts at place 0
+pub from_start : (rows places : ℕ) (test : ℕ → ℕ → Bool) → lowest_pair rows places (λ r t. test r (0 + t)) ≡ lowest_pair rows places test
+from_start rows places test = lowest_pair_alike rows places _ _ (λ r t h l. ap (test r) (zero-add t))

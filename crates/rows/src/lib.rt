@@ -103,9 +103,17 @@ where
     sum
 }
 
-// The first place that cannot be read, by row and then by place, of a stretch of so many places that is alike in all rows.
-// The place is counted from the start of the stretch.
-pub fn first_hole<S: Shelf>(
+// The first place that cannot be read, by row and then by place.
+pub fn first_hole<S: Shelf>(shelf: &S, rows: usize, places: usize) -> Option<(usize, usize)>
+where
+    S::Symbol: Field,
+    ensures { result ≡ lowest_pair rows places (λ row place. is_hole ((S.Shelf.contents shelf.now).at row place)) }
+{
+    first_hole_from(shelf, rows, 0, places)
+}
+
+// The same of a stretch of so many places that is alike in all rows. The place is counted from the start of the stretch.
+pub fn first_hole_from<S: Shelf>(
     shelf: &S,
     rows: usize,
     start: usize,
@@ -130,9 +138,18 @@ where
     found
 }
 
-// The first place of the first parity row that does not fit, by parity row and then by place, of a stretch of places. The parity row is named by its
-// index i, not by its row k + i, and the place is counted from the start of the stretch.
-pub fn first_misfit<S: Shelf>(
+// The first place of the first parity row that does not fit, by parity row and then by place of the block. The parity row is named by its index i, not
+// by its row k + i.
+pub fn first_misfit<S: Shelf>(shelf: &S, sizes: Sizes) -> Option<(usize, usize)>
+where
+    S::Symbol: Field,
+    ensures { sizes.parity_rows ≤ 4 → sizes.data_rows ≤ 64 → sizes.data_rows + 4 ≤ S.Symbol.Field.algebra.size → result ≡ lowest_pair sizes.parity_rows sizes.block_length (misfit S.Symbol.Field.algebra (seen S.Symbol.Field.meaning sizes (S.Shelf.contents shelf.now))) }
+{
+    first_misfit_from(shelf, sizes, 0, sizes.block_length)
+}
+
+// The same of a stretch of places. The place is counted from the start of the stretch.
+pub fn first_misfit_from<S: Shelf>(
     shelf: &S,
     sizes: Sizes,
     start: usize,
@@ -140,7 +157,7 @@ pub fn first_misfit<S: Shelf>(
 ) -> Option<(usize, usize)>
 where
     S::Symbol: Field,
-    ensures { start + places < 2 ^ 64 → fits S.Symbol.Field.algebra (seen S.Symbol.Field.meaning sizes (S.Shelf.contents shelf.now)) ≡ true → result ≡ lowest_pair sizes.parity_rows places (λ i t. misfit S.Symbol.Field.algebra (seen S.Symbol.Field.meaning sizes (S.Shelf.contents shelf.now)) i (start + t)) }
+    ensures { start + places < 2 ^ 64 → sizes.parity_rows ≤ 4 → sizes.data_rows ≤ 64 → sizes.data_rows + 4 ≤ S.Symbol.Field.algebra.size → result ≡ lowest_pair sizes.parity_rows places (λ i t. misfit S.Symbol.Field.algebra (seen S.Symbol.Field.meaning sizes (S.Shelf.contents shelf.now)) i (start + t)) }
 {
     let mut found = None;
     'rows: for i in 0..sizes.parity_rows {

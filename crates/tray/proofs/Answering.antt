@@ -1,5 +1,5 @@
 -- From what a call tested to its promise.
-use Rattle.std.proofs.Common.{◌≡◌, ℕ, ◌+◌, ◌^◌, ◌<◌, ◌≤◌, Bool, true, false, not, List, length, Some, None, Option, Ok, Err, sym, refl, ap, ◌∙◌, subst, subst₂, ap₂, arith, le-leb, zero-add, set}
+use Rattle.std.proofs.Common.{◌≡◌, ℕ, ◌+◌, ◌^◌, ◌<◌, ◌≤◌, true, false, not, List, length, Some, None, Option, Ok, Err, sym, refl, ap, ◌∙◌, subst, subst₂, ap₂, arith, le-leb, set}
 use borrow.Author.Tests.{lt-leb}
 use Rattle.std.specs.Option.{option_map}
 use Rattle.std.specs.Prelude.{map}
@@ -32,16 +32,12 @@ use Rattle.rules.proofs.Found.{lowest_none, lowest_pair_alike}
 use Rattle.rules.proofs.Rows.{fitting, sound_means}
 use Rattle.rules.proofs.Refusals.{unrefused, refused_promise, walks_at}
 
--- a stretch that starts at place 0
-pub from_start : (rows places : ℕ) (test : ℕ → ℕ → Bool) → lowest_pair rows places (λ r t. test r (0 + t)) ≡ lowest_pair rows places test
-from_start rows places test = lowest_pair_alike rows places _ _ (λ r t h l. ap (test r) (zero-add t))
-
--- the first hole of a stretch, as code finds it on the shelf, is that of the state
-pub stretch_holes : {X A : Type 0} (meaning : X → A) (held : Contents X) (rows rows' start places : ℕ) (o : Option (ℕ × ℕ)) → rows' ≡ rows
-    → o ≡ lowest_pair rows' places (λ r t. is_hole (held.at r (start + t))) → lowest_pair rows places (λ r t. is_hole (seen_cell meaning (held.at r (start + t)))) ≡ o
-stretch_holes meaning held rows rows' start places o all found =
-    lowest_pair_alike rows places _ _ (λ r t h l. same_hole meaning (held.at r (start + t)))
-    ∙ ap (λ v. lowest_pair v places (λ r t. is_hole (held.at r (start + t)))) (sym all) ∙ sym found
+-- the first hole of some places, as code finds it on the shelf, is that of the state
+pub places_holes : {X A : Type 0} (meaning : X → A) (held : Contents X) (rows rows' places : ℕ) (at : ℕ → ℕ) (o : Option (ℕ × ℕ)) → rows' ≡ rows
+    → o ≡ lowest_pair rows' places (λ r t. is_hole (held.at r (at t))) → lowest_pair rows places (λ r t. is_hole (seen_cell meaning (held.at r (at t)))) ≡ o
+places_holes meaning held rows rows' places at o all found =
+    lowest_pair_alike rows places _ _ (λ r t h l. same_hole meaning (held.at r (at t)))
+    ∙ ap (λ v. lowest_pair v places (λ r t. is_hole (held.at r (at t)))) (sym all) ∙ sym found
 
 -- what a search found, of an option that also says something of it
 pub found_with : {B : Type 0} (f : ℕ → B) (o : Option ℕ) (i : ℕ) (v : B) → option_map {U = ℕ × B} (λ i. (i, f i)) o ≡ Some (i, v) → (o ≡ Some i) × (v ≡ f i)

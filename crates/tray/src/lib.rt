@@ -110,20 +110,10 @@ where
             return Err(Refusal::TakenInAlready);
         }
         let rows = self.rows();
-        if let Some((row, place)) = rows::first_hole(
-            &self.shelf,
-            rows,
-            0,
-            self.sizes.block_length,
-        ) {
+        if let Some((row, place)) = rows::first_hole(&self.shelf, rows, self.sizes.block_length) {
             return Err(Refusal::Unreadable(row, place));
         }
-        if let Some((i, place)) = rows::first_misfit(
-            &self.shelf,
-            self.sizes,
-            0,
-            self.sizes.block_length,
-        ) {
+        if let Some((i, place)) = rows::first_misfit(&self.shelf, self.sizes) {
             return Err(Refusal::Misfit(self.sizes.data_rows.saturating_add(i), place));
         }
         rows::put_cards(&mut self.shelf, self.sizes);
@@ -223,7 +213,7 @@ where
     {
         self.ready()?;
         let start = self.sizes.block_length;
-        if let Some((row, component)) = rows::first_hole(
+        if let Some((row, component)) = rows::first_hole_from(
             &self.shelf,
             self.rows(),
             start,
@@ -231,7 +221,7 @@ where
         ) {
             return Err(Refusal::Unreadable(row, start.saturating_add(component)));
         }
-        if let Some((i, component)) = rows::first_misfit(
+        if let Some((i, component)) = rows::first_misfit_from(
             &self.shelf,
             self.sizes,
             start,

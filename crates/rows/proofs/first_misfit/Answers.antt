@@ -1,49 +1,10 @@
-use Rattle.std.proofs.Common.{◌≡◌, ℕ, ◌+◌, ◌<◌, Bool, true, false, not, sym, ap, ◌∙◌, arith, below_more}
-use Rattle.rules.proofs.Loops.{lowest_pair_at, lowest_pair_nowhere}
-use Rattle.rules.proofs.Rows.{fitting}
+use Rattle.std.proofs.Common.{◌∙◌, arith}
 use Rattle.rules.specs.States.{misfit}
 use Rattle.rules.specs.Views.{seen}
-use Rattle.rows.proofs.Combining.{misfit_is}
+use Rattle.rows.proofs.Reading.{from_start}
 use Rattle.rows.proofs.first_misfit.Goals as goal
 
-pub loop-t-preserved : goal.loop-t-preserved
-loop-t-preserved g c =
-    let F = g.S.Symbol.Field.algebra in
-    let meaning = g.S.Symbol.Field.meaning in
-    let held = g.S.Shelf.contents c.args.shelf.now in (
-      c.loop-t.invariant.0,
-      λ room fit.
-          let f = fitting F (seen meaning c.args.sizes held) fit in
-          below_more _ _ (c.loop-t.invariant.1 room fit)
-          (misfit_is F meaning c.args.sizes held c.rows.i c.args.start c.loop-t.t c.saturating_add-place.result c.saturating_add.result _ _ c.equals.result
-          (omega (arith, c.saturating_add-place.ensures)) (omega (arith, c.saturating_add.ensures))
-          (c.combination-fitting.ensures c.rows.i f.k_high (c.coefficient_row-coefficients.ensures (omega arith) f.k_high f.enough)) c.symbol_at.ensures c.equals.ensures
-          ∙ ap not c.if-not-equals.false),
-    )
-
-pub rows-preserved : goal.rows-preserved
-rows-preserved g c =
-    let test : ℕ → ℕ → Bool = λ i t. misfit g.S.Symbol.Field.algebra (seen g.S.Symbol.Field.meaning c.args.sizes (g.S.Shelf.contents c.args.shelf.now)) i (c.args.start + t) in (
-      c.loop-t.invariant.0,
-      λ room fit r t h l. below_more (λ v. (u : ℕ) → u < c.args.places → test v u ≡ false) c.rows.i
-          (λ v k u b. c.rows.invariant.1 room fit v u k b) (λ u b. c.loop-t.invariant.1 room fit u (omega arith)) r h t l,
-    )
-
-pub returns-after-rows : goal.returns-after-rows
-returns-after-rows g c room fit =
-    let test : ℕ → ℕ → Bool = λ i t. misfit g.S.Symbol.Field.algebra (seen g.S.Symbol.Field.meaning c.args.sizes (g.S.Shelf.contents c.args.shelf.now)) i (c.args.start + t) in
-    c.rows.invariant.0 ∙ sym (lowest_pair_nowhere c.args.sizes.parity_rows c.args.places test (λ r t h l. c.rows.invariant.1 room fit r t (omega arith) l))
-
-pub returns-then-not-equals : goal.returns-then-not-equals
-returns-then-not-equals g c room fit =
-    let F = g.S.Symbol.Field.algebra in
-    let meaning = g.S.Symbol.Field.meaning in
-    let held = g.S.Shelf.contents c.args.shelf.now in
-    let f = fitting F (seen meaning c.args.sizes held) fit in
-    let test : ℕ → ℕ → Bool = λ i t. misfit F (seen meaning c.args.sizes held) i (c.args.start + t) in
-    let hit : test c.rows.i c.loop-t.t ≡ true =
-    misfit_is F meaning c.args.sizes held c.rows.i c.args.start c.loop-t.t c.saturating_add-place.result c.saturating_add.result _ _ c.equals.result
-    (omega (arith, c.saturating_add-place.ensures)) (omega (arith, c.saturating_add.ensures))
-    (c.combination-fitting.ensures c.rows.i f.k_high (c.coefficient_row-coefficients.ensures (omega arith) f.k_high f.enough)) c.symbol_at.ensures c.equals.ensures
-    ∙ ap not c.if-not-equals.true in
-    sym (lowest_pair_at c.args.sizes.parity_rows c.args.places test c.rows.i c.loop-t.t c.rows-test.true c.loop-t-test.true hit (c.loop-t.invariant.1 room fit) (c.rows.invariant.1 room fit))
+pub returns : goal.returns
+returns g c few small enough =
+    c.first_misfit_from.ensures (omega arith) few small enough
+    ∙ from_start c.args.sizes.parity_rows c.args.sizes.block_length (misfit g.S.Symbol.Field.algebra (seen g.S.Symbol.Field.meaning c.args.sizes (g.S.Shelf.contents c.args.shelf.now)))

@@ -1,11 +1,11 @@
 use Rattle.std.proofs.Common.{◌+◌, sym, ◌∙◌, arith}
-use Rattle.shelves.specs.Contents.{is_hole}
 use Rattle.rules.specs.Calls.{intake}
-use Rattle.rules.specs.States.{k, p, n, cell, misfit}
+use Rattle.rules.specs.States.{k, p, n, misfit}
 use Rattle.rules.proofs.Found.{lowest_pair_some}
 use Rattle.rules.proofs.Intake.{intake_exact}
+use Rattle.rules.proofs.Rows.{fitting}
 use Rattle.tray.specs.State.{state}
-use Rattle.tray.proofs.Answering.{row_count, from_start, stretch_holes, unfit_refused, intake_again, intake_hole, intake_misfit, intake_taken}
+use Rattle.tray.proofs.Answering.{row_count, places_holes, unfit_refused, intake_again, intake_hole, intake_misfit, intake_taken}
 use Rattle.tray.proofs.Tray.intake.Goals as goal
 
 pub returns-then-not-fits : goal.returns-then-not-fits
@@ -27,7 +27,7 @@ returns-in-Some g c =
     let s = state g.S.Shelf.contents meaning c.args.self.now in
     let fit = sym c.if-not-fits.ensures in
     let rows = row_count F s fit c.rows-rows.ensures in
-    let hit = sym (from_start (k s + p s) (n s) (λ r t. is_hole (cell s r t))) ∙ stretch_holes meaning (g.S.Shelf.contents c.args.self.now.shelf) (k s + p s) c.rows-rows.result 0 (n s) _ rows (c.first_hole.ensures (omega arith)) ∙ c.in-Some.is in
+    let hit = places_holes meaning (g.S.Shelf.contents c.args.self.now.shelf) (k s + p s) c.rows-rows.result (n s) (λ t. t) _ rows c.first_hole.ensures ∙ c.in-Some.is in
     record { promise = intake_hole F s fit c.if-self.false c.in-Some.row c.in-Some.place hit; exact = intake_exact F }
 
 pub returns-in-Some-first_misfit : goal.returns-in-Some-first_misfit
@@ -36,9 +36,10 @@ returns-in-Some-first_misfit g c =
     let meaning = g.S.Symbol.Field.meaning in
     let s = state g.S.Shelf.contents meaning c.args.self.now in
     let fit = sym c.if-not-fits.ensures in
+    let f = fitting F s fit in
     let rows = row_count F s fit c.rows-rows.ensures in
-    let whole = sym (from_start (k s + p s) (n s) (λ r t. is_hole (cell s r t))) ∙ stretch_holes meaning (g.S.Shelf.contents c.args.self.now.shelf) (k s + p s) c.rows-rows.result 0 (n s) _ rows (c.first_hole.ensures (omega arith)) ∙ c.in_default.is in
-    let hit = sym (c.first_misfit.ensures (omega arith) fit ∙ from_start (p s) (n s) (misfit F s)) ∙ c.in-Some-first_misfit.is in
+    let whole = places_holes meaning (g.S.Shelf.contents c.args.self.now.shelf) (k s + p s) c.rows-rows.result (n s) (λ t. t) _ rows c.first_hole.ensures ∙ c.in_default.is in
+    let hit = sym (c.first_misfit.ensures f.p_high f.k_high f.enough) ∙ c.in-Some-first_misfit.is in
     let low = lowest_pair_some (p s) (n s) (misfit F s) c.in-Some-first_misfit.i c.in-Some-first_misfit.place hit in
     record {
       promise = intake_misfit F s fit c.if-self.false whole c.in-Some-first_misfit.i c.saturating_add.result c.in-Some-first_misfit.place (omega (arith, c.saturating_add.ensures, low.0)) hit;
@@ -51,7 +52,8 @@ returns g c =
     let meaning = g.S.Symbol.Field.meaning in
     let s = state g.S.Shelf.contents meaning c.args.self.now in
     let fit = sym c.if-not-fits.ensures in
+    let f = fitting F s fit in
     let rows = row_count F s fit c.rows-rows.ensures in
-    let whole = sym (from_start (k s + p s) (n s) (λ r t. is_hole (cell s r t))) ∙ stretch_holes meaning (g.S.Shelf.contents c.args.self.now.shelf) (k s + p s) c.rows-rows.result 0 (n s) _ rows (c.first_hole.ensures (omega arith)) ∙ c.in_default.is in
-    let none = sym (c.first_misfit.ensures (omega arith) fit ∙ from_start (p s) (n s) (misfit F s)) ∙ c.in_default-first_misfit.is in
+    let whole = places_holes meaning (g.S.Shelf.contents c.args.self.now.shelf) (k s + p s) c.rows-rows.result (n s) (λ t. t) _ rows c.first_hole.ensures ∙ c.in_default.is in
+    let none = sym (c.first_misfit.ensures f.p_high f.k_high f.enough) ∙ c.in_default-first_misfit.is in
     record { promise = intake_taken F s fit c.if-self.false whole none _ (c.put_cards.ensures.cards fit); exact = intake_exact F }

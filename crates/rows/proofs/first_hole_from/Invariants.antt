@@ -1,6 +1,6 @@
 use Rattle.std.proofs.Common.{◌≡◌, ℕ, ◌+◌, ◌^◌, ◌<◌, false, None}
 use Rattle.shelves.specs.Contents.{is_hole}
-use Rattle.rows.proofs.first_hole.Given as goal
+use Rattle.rows.proofs.first_hole_from.Given as goal
 
 abbrev pub invariant-rows : goal.invariant-rows
 invariant-rows g l =
