@@ -1,5 +1,5 @@
--- What a report on an image amounts to.
-use Rattle.std.proofs.Common.{◌≡◌, ℕ, ◌+◌, ◌<◌, ◌≤◌, List, [], min, take, Ok, Err, Result, sym, refl, ap, ◌∙◌, subst, ap₂, arith, lt-ltb}
+-- What the receipt of an image amounts to.
+use Rattle.std.proofs.Common.{◌≡◌, ℕ, ◌+◌, ◌<◌, ◌≤◌, List, [], min, take, sym, refl, ap, ◌∙◌, subst, ap₂, arith, lt-ltb}
 use Rattle.algebra.specs.Algebra.{Field}
 use Rattle.byte_field.specs.Meaning.{byte_algebra}
 use Rattle.counter_field.specs.Meaning.{counter_algebra}
@@ -14,15 +14,17 @@ use Rattle.rules.specs.declared.Sizes.{Sizes}
 use Rattle.rules.proofs.Intake.{intake_exact}
 use Rattle.rules.proofs.Rows.{fitting}
 use Rattle.reports.specs.Cards.{listed, component_number, cards_of, numbers_of, OutcomeOf}
-use Rattle.reports.specs.Exact.{signature_numbers, OutcomeExact, ImageExact, ReportExact}
-use Rattle.reports.specs.Report.{head_sizes, ImageOutcome, ReportOf, input_head, Reported}
-use Rattle.reports.specs.declared.InputRefusal.{InputRefusal}
+use Rattle.reports.specs.Exact.{signature_numbers, OutcomeExact, ImageExact, ReceiptExact}
+use Rattle.reports.specs.Receipt.{head_sizes, ImageOutcome, ReceiptOf, Received}
+use Rattle.reports.specs.Report.{reported}
 use Rattle.reports.specs.declared.Report.{Report}
-use Rattle.reports.specs.declared.Report.TheVariants.{Tray}
+use Rattle.reports.specs.declared.Report.TheVariants.{Refused as ReportRefused, Tray}
 use Rattle.reports.specs.declared.cards.Card.{Card}
 use Rattle.reports.specs.declared.cards.Cards.{Cards}
 use Rattle.reports.specs.declared.cards.Outcome.{Outcome}
 use Rattle.reports.specs.declared.cards.Outcome.TheVariants.{Taken, Refused}
+use Rattle.reports.specs.declared.receipt.Receipt.{Receipt}
+use Rattle.reports.specs.declared.receipt.Receipt.TheVariants.{Tray as TrayReceipt}
 use Rattle.reports.proofs.Listing.{get_listed, take_listed, listed_same}
 use Rattle.reports.proofs.Taking.{card_of, taken_fits}
 
@@ -70,14 +72,14 @@ image_exact : (f : FieldKind) (sizes : Sizes) (bytes : List ℕ) (o : Outcome) �
 image_exact Byte sizes bytes o a = outcome_exact byte_algebra sizes _ o a
 image_exact Counter sizes bytes o a = outcome_exact counter_algebra sizes _ o a
 
-exact_of : (bytes : List ℕ) (input_head : Result Head InputRefusal) (report : Report) → ReportOf bytes input_head report → ReportExact bytes report
-exact_of bytes (Err r) report a h o is = let z : ◌≡◌ {A = ℕ} 0 1 = cc in absurd (omega arith)
-exact_of bytes (Ok g) report (o', is', a) h o is =
-    let both : ◌≡◌ {A = Report} (Tray g o') (Tray h o) = sym is' ∙ is in
+exact_of : (bytes : List ℕ) (report : Report) (receipt : Receipt) → ReceiptOf bytes report receipt → ReceiptExact bytes receipt
+exact_of bytes (ReportRefused r) receipt a h o is = let z : ◌≡◌ {A = ℕ} 0 1 = cc in absurd (omega arith)
+exact_of bytes (Tray g) receipt (o', is', a) h o is =
+    let both : ◌≡◌ {A = Receipt} (TrayReceipt g o') (TrayReceipt h o) = sym is' ∙ is in
     let same : g ≡ h = cc in
     let same' : o' ≡ o = cc in
     subst (λ (v : Head). ImageExact v.field (head_sizes v) bytes o) same
     (subst (λ (v : Outcome). ImageExact g.field (head_sizes g) bytes v) same' (image_exact g.field (head_sizes g) bytes o' a))
 
-pub report_exact : (bytes : List ℕ) (report : Report) → Reported bytes report → ReportExact bytes report
-report_exact bytes report a = exact_of bytes (input_head bytes) report a
+pub receipt_exact : (bytes : List ℕ) (receipt : Receipt) → Received bytes receipt → ReceiptExact bytes receipt
+receipt_exact bytes receipt a = exact_of bytes (reported bytes) receipt a

@@ -1,4 +1,4 @@
--- What a report on an image amounts to: it tells of an intake exactly where the tray can be delivered, and then the numbers of each row's card are those of
+-- What the receipt of an image amounts to: it tells of an intake exactly where the tray can be delivered, and then the numbers of each row's card are those of
 -- the signature of the row's block in the image.
 use Rattle.std.specs.Prelude.{◌≡◌, ℕ, ◌+◌, ◌<◌, ◌↔◌, List}
 use Rattle.algebra.specs.Algebra.{Field}
@@ -14,12 +14,12 @@ use Rattle.rules.specs.States.{State, k, p, n, m, symbol_at}
 use Rattle.rules.specs.Views.{seen}
 use Rattle.rules.specs.declared.Sizes.{Sizes}
 use Rattle.reports.specs.Cards.{listed, numbers_of}
-use Rattle.reports.specs.Report.{head_sizes}
-use Rattle.reports.specs.declared.Report.{Report}
-use Rattle.reports.specs.declared.Report.TheVariants.{Tray}
+use Rattle.reports.specs.Receipt.{head_sizes}
 use Rattle.reports.specs.declared.cards.Cards.{Cards}
 use Rattle.reports.specs.declared.cards.Outcome.{Outcome}
 use Rattle.reports.specs.declared.cards.Outcome.TheVariants.{Taken}
+use Rattle.reports.specs.declared.receipt.Receipt.{Receipt}
+use Rattle.reports.specs.declared.receipt.Receipt.TheVariants.{Tray}
 
 module _ {A : Type 0} (F : Field A) (s : State A) where
   -- the numbers of the signature of a row's block
@@ -35,5 +35,5 @@ abbrev pub ImageExact : FieldKind → Sizes → List ℕ → Outcome → Type 0
 ImageExact Byte sizes bytes o = OutcomeExact byte_algebra (seen byte_meaning sizes (byte_image bytes)) o
 ImageExact Counter sizes bytes o = OutcomeExact counter_algebra (seen counter_meaning sizes (counter_image bytes)) o
 
-abbrev pub ReportExact : List ℕ → Report → Type 0
-ReportExact bytes report = (h : Head) (o : Outcome) → report ≡ Tray h o → ImageExact h.field (head_sizes h) bytes o
+abbrev pub ReceiptExact : List ℕ → Receipt → Type 0
+ReceiptExact bytes receipt = (h : Head) (o : Outcome) → receipt ≡ Tray h o → ImageExact h.field (head_sizes h) bytes o

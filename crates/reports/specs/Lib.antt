@@ -1,4 +1,5 @@
 pub mod Cards
 pub mod Report
+pub mod Receipt
 pub mod Text
 pub mod Exact

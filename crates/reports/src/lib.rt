@@ -2,17 +2,17 @@
 #![tactic(auto)]
 
 ghost use Rattle.std.specs.Prelude.{◌≡◌, Some};
-ghost use Rattle.reports.specs.Exact.{ReportExact};
-ghost use Rattle.reports.specs.Report.{input_refusal_number, head_sizes, ImageOutcome, Reported, OnlyReport};
+ghost use Rattle.reports.specs.Report.{input_refusal_number, reported};
+ghost use Rattle.reports.specs.Text.{report_text};
 
 mod cards;
+mod receipt;
 mod text;
 
-use cards::take_in;
 pub use cards::{Card, Cards, Outcome};
-use image_shelves::{ByteImage, CounterImage};
-use images::{FieldKind, Head, ImageRefusal};
-use rules::Sizes;
+use images::{Head, ImageRefusal};
+pub use receipt::{Receipt, receive};
+use std::fmt;
 
 // The most bytes of input that are looked at.
 pub const INPUT_LIMIT: usize = 65_536;
@@ -35,49 +35,43 @@ impl InputRefusal {
     }
 }
 
-#[derive(PartialEq, Eq, Debug, Drop)]
+#[derive(Clone, Copy, PartialEq, Eq, Debug)]
 pub enum Report {
-    NoImage(InputRefusal),
-    Tray(Head, Outcome),
+    Refused(InputRefusal),
+    Tray(Head),
 }
 
-// The sizes that an image's head says.
-fn sizes_of(head: &Head) -> Sizes
-    ensures { result ≡ head_sizes head.now }
-{
-    Sizes {
-        data_rows: head.data_rows as usize,
-        parity_rows: head.parity_rows as usize,
-        block_length: head.block_length as usize,
-        card_length: head.card_length as usize,
-    }
-}
-
-// Takes in a new tray of these sizes over the image shelf of a field.
-fn take_in_image(field: FieldKind, sizes: Sizes, bytes: &mut [u8]) -> Outcome
-    ensures { ImageOutcome field sizes bytes.old result }
-{
-    match field {
-        FieldKind::Byte => take_in(ByteImage::over(bytes), sizes),
-        FieldKind::Counter => take_in(CounterImage::over(bytes), sizes),
-    }
-}
-
-// The report on an input. The tray is made over these bytes: where it is taken in, its cards are put there.
-pub fn answer(bytes: &mut [u8]) -> Report
-    ensures value { Reported bytes.old result }
-    ensures only { OnlyReport bytes.old result }
-    ensures exact { ReportExact bytes.old result }
+// The report on an input.
+pub fn answer(bytes: &[u8]) -> Report
+    ensures { result ≡ reported bytes.now }
 {
     if bytes.len() > INPUT_LIMIT {
-        return Report::NoImage(InputRefusal::TooLong);
+        return Report::Refused(InputRefusal::TooLong);
     }
     match images::check(bytes) {
-        Ok(head) => {
-            let outcome = take_in_image(head.field, sizes_of(&head), bytes);
-            Report::Tray(head, outcome)
+        Ok(head) => Report::Tray(head),
+        Err(refusal) => Report::Refused(InputRefusal::Image(refusal)),
+    }
+}
+
+impl fmt::Display for Report {
+    ghost output = { λ r. Some (report_text r) };
+
+    fn fmt<W: fmt::Write>(&self, f: &mut fmt::Formatter<W>) -> fmt::Result {
+        match self {
+            Report::Refused(refusal) => {
+                let number = refusal.number();
+                write!(f, "image refused {number}")
+            }
+            Report::Tray(head) => {
+                let kind = head.field.number();
+                let k = head.data_rows;
+                let p = head.parity_rows;
+                let n = head.block_length;
+                let m = head.card_length;
+                write!(f, "tray {kind} {k} {p} {n} {m}")
+            }
         }
-        Err(refusal) => Report::NoImage(InputRefusal::Image(refusal)),
     }
 }
 

@@ -13,7 +13,7 @@ fn says(
 ) -> Result<(), Fail> {
     let mut bytes = Vec::from_slice(heap, start)?;
     bytes.resize(length, 0)?;
-    let said = answer(&mut bytes).to_string(heap)?;
+    let said = answer(&bytes).to_string(heap)?;
     assert_eq!(rt; said.as_str(), text);
     Ok(())
 }
@@ -34,7 +34,7 @@ fn the_limit_of_the_input(rt: HostRuntime) -> Result<(), Fail> {
         heap,
         &[1, 3, 2, 2, 25, 151],
         65_536,
-        "tray 1 3 2 6551 2\nintake refused 1",
+        "tray 1 3 2 6551 2",
     )?;
     says(
         &rt,
@@ -48,16 +48,69 @@ fn the_limit_of_the_input(rt: HostRuntime) -> Result<(), Fail> {
 }
 
 #[test]
-fn sizes_beyond_the_limits(rt: HostRuntime) -> Result<(), Fail> {
+fn sizes_in_the_order_of_the_line(rt: HostRuntime) -> Result<(), Fail> {
     let heap = rt.alloc();
     says(
+        &rt,
+        heap,
+        &[2, 10, 4, 8, 1, 2],
+        6 + 14 * 266 * 4,
+        "tray 2 10 4 258 8",
+    )?;
+    says(
+        &rt,
+        heap,
+        &[1, 0, 0, 255, 255, 255],
+        6,
+        "tray 1 0 0 65535 255",
+    )
+}
+
+// The text of the receipt of these bytes, with zeros up to the length.
+fn receipt_says(
+    rt: &impl Abort,
+    heap: Global,
+    start: &[u8],
+    length: usize,
+    text: &str,
+) -> Result<(), Fail> {
+    let mut bytes = Vec::from_slice(heap, start)?;
+    bytes.resize(length, 0)?;
+    let said = receive(&mut bytes).to_string(heap)?;
+    assert_eq!(rt; said.as_str(), text);
+    Ok(())
+}
+
+#[test]
+fn the_limit_of_what_is_received(rt: HostRuntime) -> Result<(), Fail> {
+    let heap = rt.alloc();
+    receipt_says(
+        &rt,
+        heap,
+        &[1, 3, 2, 2, 25, 151],
+        65_536,
+        "tray 1 3 2 6551 2\nintake refused 1",
+    )?;
+    receipt_says(
+        &rt,
+        heap,
+        &[1, 3, 2, 2, 25, 151],
+        65_537,
+        "image refused 24",
+    )
+}
+
+#[test]
+fn sizes_beyond_the_limits(rt: HostRuntime) -> Result<(), Fail> {
+    let heap = rt.alloc();
+    receipt_says(
         &rt,
         heap,
         &[1, 0, 0, 255, 255, 255],
         6,
         "tray 1 0 0 65535 255\nintake refused 1",
     )?;
-    says(
+    receipt_says(
         &rt,
         heap,
         &[1, 200, 2, 2, 0, 1],
@@ -69,7 +122,7 @@ fn sizes_beyond_the_limits(rt: HostRuntime) -> Result<(), Fail> {
 #[test]
 fn holes_of_a_tray_that_fits(rt: HostRuntime) -> Result<(), Fail> {
     let heap = rt.alloc();
-    says(
+    receipt_says(
         &rt,
         heap,
         &[2, 10, 4, 8, 1, 2],
@@ -84,7 +137,7 @@ const EXAMPLE: [u8; 46] = [
     0, 0, 0, 0, 5, 2, 3, 0, 0, 163, 81, 247, 0, 0,
 ];
 
-// The report on the example with one byte changed.
+// The receipt of the example with one byte changed.
 fn changed_says(
     rt: &impl Abort,
     heap: Global,
@@ -96,7 +149,7 @@ fn changed_says(
     if at < 46 {
         bytes[at] = byte;
     }
-    says(rt, heap, &bytes, 46, text)
+    receipt_says(rt, heap, &bytes, 46, text)
 }
 
 #[test]
@@ -109,7 +162,7 @@ fn the_first_fault_by_row_and_place(rt: HostRuntime) -> Result<(), Fail> {
 #[test]
 fn a_counter_field_tray_taken_in(rt: HostRuntime) -> Result<(), Fail> {
     let heap = rt.alloc();
-    says(
+    receipt_says(
         &rt,
         heap,
         &[

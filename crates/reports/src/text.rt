@@ -1,11 +1,10 @@
-// The report as text, without the last line's end.
+// The receipt as text, without the last line's end.
 
 ghost use Rattle.std.specs.Fmt.{WritesOnOk};
 ghost use Rattle.std.specs.Prelude.{Some};
-ghost use Rattle.reports.specs.Text.{card_text, cards_text, outcome_text, head_text, report_text};
+ghost use Rattle.reports.specs.Text.{card_text, cards_text, outcome_text, receipt_text};
 
-use crate::{Cards, Outcome, Report};
-use images::Head;
+use crate::{Cards, Outcome, Receipt, Report};
 use std::fmt;
 
 // A row and its card.
@@ -47,29 +46,19 @@ impl fmt::Display for Outcome {
     }
 }
 
-// The sizes of a good image.
-fn write_head<W: fmt::Write>(f: &mut fmt::Formatter<W>, head: &Head) -> fmt::Result
-    ensures { WritesOnOk W.write_str_gives f.old result (head_text head.now) f.new }
-{
-    let kind = head.field.number();
-    let k = head.data_rows;
-    let p = head.parity_rows;
-    let n = head.block_length;
-    let m = head.card_length;
-    write!(f, "tray {kind} {k} {p} {n} {m}")
-}
-
-impl fmt::Display for Report {
-    ghost output = { λ r. Some (report_text r) };
+// The report's line, and below it what intake answered.
+impl fmt::Display for Receipt {
+    ghost output = { λ r. Some (receipt_text r) };
 
     fn fmt<W: fmt::Write>(&self, f: &mut fmt::Formatter<W>) -> fmt::Result {
         match self {
-            Report::NoImage(refusal) => {
-                let number = refusal.number();
-                write!(f, "image refused {number}")
+            Receipt::NoImage(refusal) => {
+                let report = Report::Refused(*refusal);
+                write!(f, "{report}")
             }
-            Report::Tray(head, outcome) => {
-                write_head(f, head)?;
+            Receipt::Tray(head, outcome) => {
+                let report = Report::Tray(*head);
+                write!(f, "{report}")?;
                 write!(f, "\n{outcome}")
             }
         }

@@ -9,7 +9,7 @@ fn run(rt: &HostRuntime) -> anyhow::Result<()> {
     rt.stdin()
         .take(reports::INPUT_LIMIT as u64 + 1)
         .read_to_end(&mut input)?;
-    rt.println(reports::answer(&mut input))?;
+    rt.println(reports::receive(&mut input))?;
     Ok(())
 }
 
