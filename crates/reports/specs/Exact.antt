@@ -1,4 +1,4 @@
--- What the receipt of an image amounts to: it tells of an intake exactly where the tray can be delivered, and then the numbers of each row's card are those of
+-- What the receipt of an image amounts to: it tells of an intake exactly where the tray is acceptable, and then the numbers of each row's card are those of
 -- the signature of the row's block in the image.
 use Rattle.std.specs.Prelude.{◌≡◌, ℕ, ◌+◌, ◌<◌, ◌↔◌, List}
 use Rattle.algebra.specs.Algebra.{Field}

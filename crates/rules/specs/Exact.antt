@@ -29,7 +29,7 @@ module _ {X : Type 0} (F : Field X) where
     pub blocks : (row place : ℕ) → row < k s + p s → place < n s → cell s' row place ≡ cell s row place
     pub cards : (row c : ℕ) → row < k s + p s → c < m s → cell s' row (n s + c) ≡ symbol (component F (n s) (symbol_at F s row) c)
 
-  -- Intake accepts a new tray exactly when it can be delivered, and stocks it.
+  -- Intake accepts a new tray exactly when it is acceptable, and takes it in.
   abbrev pub IntakeExact : Type 0
   IntakeExact = (sizes : Sizes) (contents : Contents X) (answer : Answer X) (s' : State X) → Promise F (new sizes contents) intake answer s'
       → ((answer ≡ done) ↔ Acceptable (new sizes contents)) × (answer ≡ done → TakenIn (new sizes contents) s')
