@@ -35,3 +35,8 @@ Received bytes receipt = ReceiptOf bytes (reported bytes) receipt
 
 abbrev pub OnlyReceipt : List ℕ → Receipt → Type 0
 OnlyReceipt bytes receipt = (other : Receipt) → Received bytes other → other ≡ receipt
+
+-- An input that is no image stays as it was. Of the bytes of an image, where cards may be put, nothing is said.
+abbrev pub NoImageKept : List ℕ → List ℕ → Receipt → Type 0
+NoImageKept before after (NoImage r) = after ≡ before
+NoImageKept before after (TrayReceipt h o) = Unit {0}

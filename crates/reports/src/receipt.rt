@@ -2,7 +2,7 @@
 
 ghost use Rattle.std.specs.Prelude.{◌≡◌};
 ghost use Rattle.reports.specs.Exact.{ReceiptExact};
-ghost use Rattle.reports.specs.Receipt.{head_sizes, ImageOutcome, Received, OnlyReceipt};
+ghost use Rattle.reports.specs.Receipt.{head_sizes, ImageOutcome, Received, OnlyReceipt, NoImageKept};
 
 use crate::cards::take_in;
 use crate::{InputRefusal, Outcome, Report, answer};
@@ -44,6 +44,7 @@ pub fn receive(bytes: &mut [u8]) -> Receipt
     ensures value { Received bytes.old result }
     ensures only { OnlyReceipt bytes.old result }
     ensures exact { ReceiptExact bytes.old result }
+    ensures kept { NoImageKept bytes.old bytes.new result }
 {
     match answer(bytes) {
         Report::Refused(refusal) => Receipt::NoImage(refusal),

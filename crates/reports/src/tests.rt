@@ -3,6 +3,13 @@ use std::alloc::Global;
 use std::process::Abort;
 use std::test::Fail;
 
+// These bytes, with zeros up to the length.
+fn input(heap: Global, start: &[u8], length: usize) -> Result<Vec<u8>, Fail> {
+    let mut bytes = Vec::from_slice(heap, start)?;
+    bytes.resize(length, 0)?;
+    Ok(bytes)
+}
+
 // The text of the report on these bytes, with zeros up to the length.
 fn says(
     rt: &impl Abort,
@@ -11,9 +18,7 @@ fn says(
     length: usize,
     text: &str,
 ) -> Result<(), Fail> {
-    let mut bytes = Vec::from_slice(heap, start)?;
-    bytes.resize(length, 0)?;
-    let said = answer(&bytes).to_string(heap)?;
+    let said = answer(&input(heap, start, length)?).to_string(heap)?;
     assert_eq!(rt; said.as_str(), text);
     Ok(())
 }
@@ -74,9 +79,7 @@ fn receipt_says(
     length: usize,
     text: &str,
 ) -> Result<(), Fail> {
-    let mut bytes = Vec::from_slice(heap, start)?;
-    bytes.resize(length, 0)?;
-    let said = receive(&mut bytes).to_string(heap)?;
+    let said = receive(&mut input(heap, start, length)?).to_string(heap)?;
     assert_eq!(rt; said.as_str(), text);
     Ok(())
 }
