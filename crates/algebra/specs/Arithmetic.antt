@@ -1,6 +1,7 @@
 -- A field whose elements are the numbers below n, from operations on numbers.
 use Rattle.std.specs.Prelude.{◌≡◌, ℕ, zero, suc, ◌<◌, ◌≤◌, ◌≢◌, refl}
-use Rattle.std.proofs.Common.{sym, ap, ap₂, ◌∙◌, mod-eq_of_lt, arith}
+use Rattle.std.proofs.Common.{sym, ap, ap₂, ◌∙◌, mod-eq_of_lt, lit<}
+use Rattle.std.proofs.Math.Nat.{lt_of_le_of_lt, lt_trans, suc-ne-zero}
 use Rattle.algebra.specs.Algebra.{Field, power_by, Distinct}
 use Rattle.algebra.specs.Below.{Below, below, same_below}
 
@@ -64,7 +65,7 @@ module _ {n : ℕ} (N : Arithmetic n) where
   open N use {plus, negative, times, inverse}
 
   pub positive : 0 < n
-  positive = omega (arith, N.two)
+  positive = lt_trans (lit< tt) N.two
 
   abbrev pub element : ℕ → Below n
   element = below n positive
@@ -73,7 +74,13 @@ module _ {n : ℕ} (N : Arithmetic n) where
   value_small v h = mod-eq_of_lt h
 
   pub value_01 : (v : ℕ) → v ≤ 1 → (element v).value ≡ v
-  value_01 v h = value_small v (omega (arith, N.two))
+  value_01 v h = value_small v (lt_of_le_of_lt h N.two)
+
+  pub value_zero : (element 0).value ≡ 0
+  value_zero = value_small 0 positive
+
+  pub value_one : (element 1).value ≡ 1
+  value_one = value_small 1 N.two
 
   pub element_value : (x : Below n) → element x.value ≡ x
   element_value x = same_below _ x (mod-eq_of_lt x.small)
@@ -85,7 +92,7 @@ module _ {n : ℕ} (N : Arithmetic n) where
   value_times x y = value_small _ (N.times_small _ _ x.small y.small)
 
   pub value_power : (k : ℕ) → (power_by (element 1) (λ x y. element (times x.value y.value)) (element N.root) k).value ≡ power_by 1 times N.root k
-  value_power zero = value_01 1 (omega arith)
+  value_power zero = value_one
   value_power (suc k) = value_times (element N.root) (power_by (element 1) (λ x y. element (times x.value y.value)) (element N.root) k) ∙ ap₂ times (value_small N.root N.root_small) (value_power k)
 
   -- an element is its number, and every operation works on the numbers
@@ -102,22 +109,22 @@ module _ {n : ℕ} (N : Arithmetic n) where
     reach = N.reach;
     number = λ x. x.value;
     element = element;
-    add_assoc = λ x y z. ap element (simp (value_plus x y, value_plus y z) (N.plus_assoc _ _ _ x.small y.small z.small));
+    add_assoc = λ x y z. ap element (ap (λ v. plus v z.value) (value_plus x y) ∙ N.plus_assoc _ _ _ x.small y.small z.small ∙ ap (plus x.value) (sym (value_plus y z)));
     add_comm = λ x y. ap element (N.plus_comm _ _ x.small y.small);
-    add-zero = λ x. ap element (simp (value_01 0 (omega arith)) (N.plus_zero _ x.small)) ∙ element_value x;
-    add-neg = λ x. ap element (simp (value_small _ (N.negative_small _ x.small)) (N.plus_negative _ x.small));
-    mul_assoc = λ x y z. ap element (simp (value_times x y, value_times y z) (N.times_assoc _ _ _ x.small y.small z.small));
+    add-zero = λ x. ap element (ap (plus x.value) value_zero ∙ N.plus_zero _ x.small) ∙ element_value x;
+    add-neg = λ x. ap element (ap (plus x.value) (value_small _ (N.negative_small _ x.small)) ∙ N.plus_negative _ x.small);
+    mul_assoc = λ x y z. ap element (ap (λ v. times v z.value) (value_times x y) ∙ N.times_assoc _ _ _ x.small y.small z.small ∙ ap (times x.value) (sym (value_times y z)));
     mul_comm = λ x y. ap element (N.times_comm _ _ x.small y.small);
-    mul-one = λ x. ap element (simp (value_01 1 (omega arith)) (N.times_one _ x.small)) ∙ element_value x;
-    mul-add = λ x y z. ap element (simp (value_plus y z, value_times x y, value_times x z) (N.times_plus _ _ _ x.small y.small z.small));
-    one_nonzero = λ e. let z : ◌≡◌ {A = ℕ} 1 0 = sym (value_01 1 (omega arith)) ∙ ap (λ x. x.value) e ∙ value_01 0 (omega arith) in omega arith;
-    inv-zero = ap element (simp (value_01 0 (omega arith)) N.inverse_zero);
-    mul-inv = λ x h. ap element (simp (value_small _ (N.inverse_small _ x.small)) (N.times_inverse _ x.small (λ e. h (sym (element_value x) ∙ ap element e))));
+    mul-one = λ x. ap element (ap (times x.value) value_one ∙ N.times_one _ x.small) ∙ element_value x;
+    mul-add = λ x y z. ap element (ap (times x.value) (value_plus y z) ∙ N.times_plus _ _ _ x.small y.small z.small ∙ ap₂ plus (sym (value_times x y)) (sym (value_times x z)));
+    one_nonzero = λ e. suc-ne-zero 0 (sym value_one ∙ ap (λ x. x.value) e ∙ value_zero);
+    inv-zero = ap element (ap inverse value_zero ∙ N.inverse_zero);
+    mul-inv = λ x h. ap element (ap (times x.value) (value_small _ (N.inverse_small _ x.small)) ∙ N.times_inverse _ x.small (λ e. h (sym (element_value x) ∙ ap element e)));
     number_bound = λ x. x.small;
     element_number = element_value;
     number_element = value_small;
     element_zero = refl;
     element_one = refl;
-    α_nonzero = λ e. N.root_nonzero (sym (value_small _ N.root_small) ∙ ap (λ x. x.value) e ∙ value_01 0 (omega arith));
+    α_nonzero = λ e. N.root_nonzero (sym (value_small _ N.root_small) ∙ ap (λ x. x.value) e ∙ value_zero);
     α_powers = λ i j h k ne e. N.root_powers i j h k ne (sym (value_power i) ∙ ap (λ x. x.value) e ∙ value_power j);
   }

@@ -59,6 +59,7 @@ pub trait Field: Copy {
     fn number(self) -> usize
         ensures { result ≡ algebra.number (meaning self) };
 
+    // Not a derived `==`, which compares symbols: a field may have several for one element.
     fn equals(self, other: Self) -> bool
         ensures { result ≡ (algebra.number (meaning self) == algebra.number (meaning other)) };
 }
@@ -68,7 +69,7 @@ pub fn power_of_alpha<F: Field>(exponent: usize) -> F
     ensures { F.Field.meaning result ≡ power F.Field.algebra F.Field.algebra.α exponent }
 {
     let mut power = F::one();
-    for _i in 0..exponent {
+    for _ in 0..exponent {
         power = F::alpha().product(power);
     }
     power
@@ -79,6 +80,7 @@ pub fn write_code(number: usize, into: &mut [u8])
     ensures { into.new ≡ code (length into.old) number }
 {
     let mut rest = number;
+    // By index: nothing is known of what a walk over `iter_mut().rev()` has written, so that it could not be proved.
     for i in (0..into.len()).rev() {
         into[i] = (rest % 256) as u8;
         rest /= 256;
@@ -94,7 +96,7 @@ pub fn read_code(from: &[u8]) -> Option<usize>
     }
     let mut number: usize = 0;
     for byte in from {
-        number = number * 256 + *byte as usize;
+        number = number * 256 + usize::from(*byte);
     }
     Some(number)
 }
@@ -116,15 +118,22 @@ pub trait CodedField: Field {
     fn field_number() -> u8
         ensures { result ≡ kind };
 
+    // The number that the code holds. No other symbol has it, so that what was written reads back as it was.
+    fn code_number(self) -> usize
+        ensures value { result ≡ Self.Field.algebra.number (Self.Field.meaning self) }
+        ensures own { Self.Field.symbol result ≡ self };
+
     // Writes the code. Bytes of another length than the code's are left alone, and the answer is false.
     fn encode(self, into: &mut [u8]) -> bool
         ensures answer { result ≡ (length into.old == width) }
+        ensures own { Self.Field.symbol (Self.Field.algebra.number (Self.Field.meaning self)) ≡ self }
         ensures after { into.new ≡ (if nat_eq (length into.old) width then code width (Self.Field.algebra.number (Self.Field.meaning self)) else into.old) }
     {
+        let number = self.code_number();
         if into.len() != Self::code_width() {
             return false;
         }
-        write_code(self.number(), into);
+        write_code(number, into);
         true
     }
 
@@ -136,10 +145,7 @@ pub trait CodedField: Field {
         if from.len() != Self::code_width() {
             return None;
         }
-        match read_code(from) {
-            Some(number) => Self::numbered(number),
-            None => None,
-        }
+        Self::numbered(read_code(from)?)
     }
 }
 

@@ -1,5 +1,5 @@
 -- One step of the product, bit by bit from the highest.
-use Rattle.std.proofs.Common.{◌≡◌, ℕ, suc, ◌+◌, ◌-◌, ◌*◌, ◌/◌, ◌%◌, ◌^◌, ◌<◌, sym, ap, ◌∙◌, div-lt_iff_lt-mul, div-add-mod', arith, lit<, pow_pos, pow-add, lt-ltb}
+use Rattle.std.proofs.Common.{◌≡◌, ℕ, suc, ◌+◌, ◌-◌, ◌*◌, ◌/◌, ◌%◌, ◌^◌, ◌<◌, ◌≤◌, sym, ap, ◌∙◌, div-lt_iff_lt-mul, div-add-mod', arith, lit<, pow_pos, pow-add, lt-ltb}
 use native.Mathlib.Nat.{div-div-eq-div-mul, div-eq_of_lt}
 use lib.Bits.{bit_xor, xor_shifted, xor_self, xor_zero_r}
 use Rattle.algebra.specs.Polynomial.{polynomial_product, product_of_bits, remainder}
@@ -52,18 +52,23 @@ module _ (a b j s : ℕ) (ha : a < 256) (hb : b < 256) (hj : 0 < j) (is : s ≡ 
   pub without_bit : (b / 2 ^ i % 2 ≡ 1 → ⊥) → by_x s ≡ a · (b / 2 ^ i)
   without_bit ne = sym (moved 0 (lit< tt) (omega arith) ∙ ap (bit_xor (by_x s)) (times_zero a) ∙ xor_zero_r (by_x s))
 
--- one square more of an inverse
-pub one_square : (a p s k : ℕ) → p < 256 → s < 256 → p · squares (suc k) s ≡ inverse a → p · (s · s) · squares k (s · s) ≡ inverse a
+-- one square more of an inverse, of which i are taken
+pub one_square : (a p s i : ℕ) → i < 7 → p < 256 → s < 256 → p · squares (7 - i) s ≡ inverse a → p · (s · s) · squares (7 - (i + 1)) (s · s) ≡ inverse a
 unfolding squares
-one_square a p s k hp hs e = ·_assoc p (s · s) (squares k (s · s)) hp (·_small s s hs hs) (squares_small k (s · s) (·_small s s hs hs)) ∙ e
+one_square a p s i h hp hs e =
+    let k : ℕ = 7 - (i + 1) in
+    let more : suc k ≡ 7 - i = omega arith in
+    ·_assoc p (s · s) (squares k (s · s)) hp (·_small s s hs hs) (squares_small k (s · s) (·_small s s hs hs)) ∙ ap (λ n. p · squares n s) more ∙ e
 
 pub no_squares : (a : ℕ) → a < 256 → 1 · squares 7 a ≡ inverse a
 unfolding inverse
 no_squares a h = ·_comm 1 (squares 7 a) (lit< tt) (squares_small 7 a h) ∙ ·_one (squares 7 a) (squares_small 7 a h)
 
-pub all_squares : (p s : ℕ) → p < 256 → p · squares 0 s ≡ p
+pub all_squares : (a p s i : ℕ) → 7 ≤ i → p < 256 → p · squares (7 - i) s ≡ inverse a → p ≡ inverse a
 unfolding squares
-all_squares p s h = ·_one p h
+all_squares a p s i h hp e =
+    let none : 0 ≡ 7 - i = omega arith in
+    sym (·_one p hp) ∙ ap (λ n. p · squares n s) none ∙ e
 
 pub none_yet : (a b : ℕ) → b < 256 → 0 ≡ a · (b / 256)
 none_yet a b h = let e : b / 256 ≡ 0 = div-eq_of_lt h in rw e (sym (times_zero a))

@@ -1,5 +1,6 @@
 -- The byte field: q = 256, the number is the byte, sum is XOR, α = 2 and the reach is 255.
-use Rattle.std.proofs.Common.{◌∙◌, arith, lit<}
+use Rattle.std.proofs.Common.{◌∙◌, lit<}
+use Rattle.std.proofs.Math.Nat.{min-eq_right, pos_of_ne-zero, suc-ne-zero, not-suc-le-zero}
 use Rattle.std.specs.Prelude.{ℕ}
 use Rattle.std.specs.Int.Bits.{bit_xor, xor_assoc, xor_self, xor_zero_r}
 use Rattle.std.proofs.lemmas.Nat.{xor_comm, xor_lt}
@@ -35,10 +36,10 @@ bytes = record {
   times_one = ·_one;
   times_plus = λ a b c h k l. ·_xor a b c;
   inverse_zero = inverse_zero;
-  times_inverse = λ a h ne. ·_inverse a h ∙ omega arith;
+  times_inverse = λ a h ne. ·_inverse a h ∙ min-eq_right (pos_of_ne-zero ne);
   root_small = lit< tt;
-  root_nonzero = omega arith;
-  root_powers = λ i j h. absurd (omega arith);
+  root_nonzero = suc-ne-zero 1;
+  root_powers = λ i j h. absurd (not-suc-le-zero h);
 }
 
 abbrev pub byte_arithmetic : Arithmetic 256

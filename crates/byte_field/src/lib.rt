@@ -42,7 +42,7 @@ fn inverted(a: u8) -> u8
 {
     let mut square = a;
     let mut power = 1;
-    for _i in 0..7u32 {
+    for _ in 0..7u32 {
         square = multiplied(square, square);
         power = multiplied(power, square);
     }
@@ -96,15 +96,11 @@ impl Field for Byte {
     }
 
     fn numbered(number: usize) -> Option<Byte> {
-        if number < 256 {
-            Some(Byte(number as u8))
-        } else {
-            None
-        }
+        u8::try_from(number).ok().map(Byte)
     }
 
     fn number(self) -> usize {
-        self.0 as usize
+        usize::from(self.0)
     }
 
     fn equals(self, other: Byte) -> bool {
@@ -123,6 +119,10 @@ impl CodedField for Byte {
 
     fn field_number() -> u8 {
         FIELD_NUMBER
+    }
+
+    fn code_number(self) -> usize {
+        self.number()
     }
 }
 

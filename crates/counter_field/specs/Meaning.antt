@@ -1,6 +1,7 @@
 -- The counter field: whole numbers modulo the prime 65,537, α = 3 and the reach is 4,096.
 use Rattle.std.specs.Prelude.{ℕ, ◌+◌, ◌-◌, ◌*◌, ◌%◌, cond, ◌==◌}
-use Rattle.std.proofs.Common.{add_comm, add-zero, mul_comm, mul-one, mod-lt, mod-eq_of_lt, arith, lit<}
+use Rattle.std.proofs.Common.{ap, ◌∙◌, add_comm, add-zero, mul_comm, mul-one, mod-lt, mod-eq_of_lt, lit<}
+use Rattle.std.proofs.Math.Nat.{le_refl, suc-ne-zero, not-suc-le-zero}
 use Rattle.algebra.specs.Algebra.{Field}
 use Rattle.algebra.specs.Arithmetic.{Arithmetic, with_reach, field_of, element}
 use Rattle.algebra.specs.Below.{Below}
@@ -22,23 +23,23 @@ counters = record {
   root = 3;
   reach = 0;
   two = lit< tt;
-  plus_small = λ a b h k. omega arith;
-  negative_small = λ a h. omega arith;
+  plus_small = λ a b h k. mod-lt (a + b) (lit< tt);
+  negative_small = λ a h. mod-lt (65537 - a) (lit< tt);
   times_small = λ a b h k. mod-lt (a * b) (lit< tt);
   inverse_small = λ a h. inverse_small 65537 a a h;
   plus_assoc = λ a b c h k l. plus_assoc 65537 a b c;
-  plus_comm = λ a b h k. simp (add_comm a b);
-  plus_zero = λ a h. rw (add-zero a) (mod-eq_of_lt h);
+  plus_comm = λ a b h k. ap (λ v. v % 65537) (add_comm a b);
+  plus_zero = λ a h. ap (λ v. v % 65537) (add-zero a) ∙ mod-eq_of_lt h;
   plus_negative = λ a h. plus_negative 65537 a h;
   times_assoc = λ a b c h k l. times_assoc 65537 a b c;
-  times_comm = λ a b h k. simp (mul_comm a b);
-  times_one = λ a h. rw (mul-one a) (mod-eq_of_lt h);
+  times_comm = λ a b h k. ap (λ v. v % 65537) (mul_comm a b);
+  times_one = λ a h. ap (λ v. v % 65537) (mul-one a) ∙ mod-eq_of_lt h;
   times_plus = λ a b c h k l. times_plus 65537 a b c;
   inverse_zero = inverse_zero 65537;
-  times_inverse = λ a h ne. inverse_right 65537 prime_65537 a a (omega arith) h ne;
+  times_inverse = λ a h ne. inverse_right 65537 prime_65537 a a (le_refl a) h ne;
   root_small = lit< tt;
-  root_nonzero = omega arith;
-  root_powers = λ i j h. absurd (omega arith);
+  root_nonzero = suc-ne-zero 2;
+  root_powers = λ i j h. absurd (not-suc-le-zero h);
 }
 
 abbrev pub counter_arithmetic : Arithmetic 65537

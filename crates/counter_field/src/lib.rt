@@ -12,6 +12,7 @@ const WIDTH: usize = 3;
 const FIELD_NUMBER: u8 = 2;
 
 // A symbol of the counter field: a 16-bit number, or 65,536. No larger symbol can exist.
+// Not `Option<u16>`: its `None` would not say that it is a number, and which.
 #[derive(Clone, Copy, PartialEq, Eq, Debug)]
 pub enum Counter {
     Low(u16),
@@ -19,36 +20,22 @@ pub enum Counter {
 }
 
 impl Counter {
-    fn value(self) -> u64
-        ensures value { result ≡ counter_number self }
-        ensures bound { result < 65537 }
+    // The symbol of a number's remainder.
+    fn reduced(number: usize) -> Counter
+        ensures value { result ≡ counter_symbol (number % 65537) }
+        ensures number { counter_number result ≡ number % 65537 }
     {
-        match self {
-            Counter::Low(value) => value as u64,
-            Counter::Top => 65_536,
-        }
-    }
-
-    fn reduced(value: u64) -> Counter
-        ensures value { result ≡ counter_symbol (value % 65537) }
-        ensures number { counter_number result ≡ value % 65537 }
-    {
-        let rest = value % 65_537;
-        if rest == 65_536 {
-            Counter::Top
-        } else {
-            Counter::Low(rest as u16)
-        }
+        u16::try_from(number % 65_537).map_or(Counter::Top, Counter::Low)
     }
 }
 
-// The inverse, by division with remainder: factor times the value is always rest, modulo 65,537.
-fn inverted(value: u64) -> u64
-    ensures value { result ≡ modular_inverse 65537 (value % 65537) }
+// The inverse, by division with remainder: factor times the number is always rest, modulo 65,537.
+fn inverted(number: usize) -> usize
+    ensures value { result ≡ modular_inverse 65537 (number % 65537) }
     ensures bound { result < 65537 }
 {
     let mut factor = 1;
-    let mut rest = value % 65_537;
+    let mut rest = number % 65_537;
     while rest > 1 {
         factor = factor * (65_537 - 65_537 / rest) % 65_537;
         rest = 65_537 % rest;
@@ -86,35 +73,34 @@ impl Field for Counter {
     }
 
     fn sum(self, other: Counter) -> Counter {
-        Counter::reduced(self.value() + other.value())
+        Counter::reduced(self.number() + other.number())
     }
 
     fn difference(self, other: Counter) -> Counter {
-        Counter::reduced(self.value() + (65_537 - other.value()))
+        Counter::reduced(self.number() + (65_537 - other.number()))
     }
 
     fn product(self, other: Counter) -> Counter {
-        Counter::reduced(self.value() * other.value())
+        Counter::reduced(self.number() * other.number())
     }
 
     fn inverse(self) -> Counter {
-        Counter::reduced(inverted(self.value()))
+        Counter::reduced(inverted(self.number()))
     }
 
     fn numbered(number: usize) -> Option<Counter> {
-        if number < 65_537 {
-            Some(Counter::reduced(number as u64))
-        } else {
-            None
-        }
+        (number < 65_537).then(|| Counter::reduced(number))
     }
 
     fn number(self) -> usize {
-        self.value() as usize
+        match self {
+            Counter::Low(number) => usize::from(number),
+            Counter::Top => 65_536,
+        }
     }
 
     fn equals(self, other: Counter) -> bool {
-        self.value() == other.value()
+        self.number() == other.number()
     }
 }
 
@@ -129,6 +115,10 @@ impl CodedField for Counter {
 
     fn field_number() -> u8 {
         FIELD_NUMBER
+    }
+
+    fn code_number(self) -> usize {
+        self.number()
     }
 }
 

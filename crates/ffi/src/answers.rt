@@ -1,25 +1,27 @@
 // A call's answer as five numbers: its kind, up to three numbers that it carries, and the layer of a refusal.
 use rules::{Entry, Layer, Refusal, Verdict};
 
+// C has no enums that carry numbers, so kinds and layers have numbers here, and nowhere else.
 pub type Answer = [usize; 5];
 
-// The kinds of accepted answers. A refusal's kind is its number, 1 to 11.
-const DONE: usize = 0;
+// What an accepted call gives.
+#[derive(Clone, Copy)]
+pub enum Given {
+    Done,
+    Found(Verdict),
+    Counts(usize, usize),
+    Unread,
+    Lowest(Option<usize>),
+    Mended(usize),
+}
 
-const VERDICT: usize = 100;
-
-const COUNTS: usize = 101;
-
-const UNREAD: usize = 102;
-
-const LOWEST: usize = 103;
-
-const NO_ROW: usize = 104;
-
-const MENDED: usize = 105;
-
-fn accepted(kind: usize, first: usize, second: usize) -> Answer {
-    [kind, first, second, 0, 0]
+impl From<Entry> for Given {
+    fn from(entry: Entry) -> Given {
+        match entry {
+            Entry::Unread => Given::Unread,
+            Entry::Read(verdict) => Given::Found(verdict),
+        }
+    }
 }
 
 // A verdict's kind, and its place or component.
@@ -40,76 +42,54 @@ fn layer_number(layer: Layer) -> usize {
     }
 }
 
-fn carried(refusal: Refusal) -> (usize, usize, usize) {
+fn accepted(given: Given) -> Answer {
+    match given {
+        Given::Done => [0; 5],
+        Given::Found(verdict) => {
+            let (kind, at) = verdict_numbers(verdict);
+            [100, kind, at, 0, 0]
+        }
+        Given::Counts(sound, others) => [101, sound, others, 0, 0],
+        Given::Unread => [102, 0, 0, 0, 0],
+        Given::Lowest(Some(row)) => [103, row, 0, 0, 0],
+        Given::Lowest(None) => [104, 0, 0, 0, 0],
+        Given::Mended(count) => [105, count, 0, 0, 0],
+    }
+}
+
+fn carried(refusal: Refusal) -> [usize; 3] {
     match refusal {
         Refusal::DoesNotFit | Refusal::NotTakenIn | Refusal::TakenInAlready | Refusal::WrongPhase =>
-            (0, 0, 0),
+            [0; 3],
         Refusal::NoSuchRow(number)
         | Refusal::BadSpan(number)
         | Refusal::TooManyUnsound(number)
-        | Refusal::StillWalking(number) => (number, 0, 0),
-        Refusal::Unreadable(row, place) | Refusal::Misfit(row, place) => (row, place, 0),
+        | Refusal::StillWalking(number) => [number, 0, 0],
+        Refusal::Unreadable(row, place) | Refusal::Misfit(row, place) => [row, place, 0],
         Refusal::Unsound(row, verdict) => {
             let (kind, at) = verdict_numbers(verdict);
-            (row, at, kind)
+            [row, at, kind]
         }
     }
 }
 
+// A refusal's kind is its number, 1 to 11.
 fn refused(refusal: Refusal) -> Answer {
-    let (first, second, third) = carried(refusal);
-    [
-        refusal.number() as usize,
-        first,
-        second,
-        third,
-        layer_number(refusal.layer()),
-    ]
+    let [first, second, third] = carried(refusal);
+    let kind = usize::from(refusal.number());
+    [kind, first, second, third, layer_number(refusal.layer())]
 }
 
-pub(crate) fn of_done(answered: Result<(), Refusal>) -> Answer {
+pub(crate) fn answer(answered: Result<Given, Refusal>) -> Answer {
     match answered {
-        Ok(()) => accepted(DONE, 0, 0),
+        Ok(given) => accepted(given),
         Err(refusal) => refused(refusal),
     }
 }
 
-pub(crate) fn of_verdict(answered: Result<Verdict, Refusal>) -> Answer {
-    match answered {
-        Ok(verdict) => {
-            let (kind, at) = verdict_numbers(verdict);
-            accepted(VERDICT, kind, at)
-        }
-        Err(refusal) => refused(refusal),
-    }
-}
-
-pub(crate) fn of_counts(answered: Result<(usize, usize), Refusal>) -> Answer {
-    match answered {
-        Ok((sound, others)) => accepted(COUNTS, sound, others),
-        Err(refusal) => refused(refusal),
-    }
-}
-
-pub(crate) fn of_entry(answered: Result<Entry, Refusal>) -> Answer {
-    match answered {
-        Ok(Entry::Unread) => accepted(UNREAD, 0, 0),
-        Ok(Entry::Read(verdict)) => of_verdict(Ok(verdict)),
-        Err(refusal) => refused(refusal),
-    }
-}
-
-pub(crate) fn of_lowest(answered: Result<Option<usize>, Refusal>) -> Answer {
-    match answered {
-        Ok(Some(row)) => accepted(LOWEST, row, 0),
-        Ok(None) => accepted(NO_ROW, 0, 0),
-        Err(refusal) => refused(refusal),
-    }
-}
-
-pub(crate) fn of_mended(answered: Result<usize, Refusal>) -> Answer {
-    match answered {
-        Ok(count) => accepted(MENDED, count, 0),
-        Err(refusal) => refused(refusal),
+// Writes numbers down, as many as there is room for.
+pub(crate) fn write_down(room: &mut [usize], numbers: &[usize]) {
+    for (slot, number) in room.iter_mut().zip(numbers) {
+        *slot = *number;
     }
 }

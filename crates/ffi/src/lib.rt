@@ -1,17 +1,23 @@
 // Trays for callers in C and Rust, for each field: a whole script of calls over an image in lent bytes, the same over lent symbols and marks, the parity
 // rows alone, and the puts of a write one by one. Nothing is kept from one function to the next, so a caller holds no tray.
+// C has no generics and takes no structs of ours, so each function stands here once for each field, with the sizes one by one.
 // That these functions are safe and return is proved. What they answer is not: bench/ compares it with a program of its own.
 #![tactic(auto)]
 
 mod answers;
 mod arrays;
-mod byte_runs;
-mod counter_runs;
 mod recorded;
+mod runs;
 mod script;
 
+use arrays::CAPACITY;
+use byte_field::Byte;
+use counter_field::Counter;
 use rules::Sizes;
+use runs::Memory;
+use script::{Desk, SYMBOLS};
 
+// C gives the sizes in order; no function of Sizes, where four numbers without names could change places.
 fn sizes_of(
     data_rows: usize,
     parity_rows: usize,
@@ -39,7 +45,12 @@ pub extern "C" fn tray_byte_image(
     answers: &mut [usize],
 ) {
     let sizes = sizes_of(data_rows, parity_rows, block_length, card_length);
-    byte_runs::over_image(image, sizes, script, numbers, answers);
+    let mut desk = Desk {
+        numbers,
+        answers,
+        symbols: &mut [Byte(0); SYMBOLS],
+    };
+    runs::over_image(image, sizes, script, &mut desk);
 }
 
 // Runs a script over an image of the counter field.
@@ -55,7 +66,12 @@ pub extern "C" fn tray_counter_image(
     answers: &mut [usize],
 ) {
     let sizes = sizes_of(data_rows, parity_rows, block_length, card_length);
-    counter_runs::over_image(image, sizes, script, numbers, answers);
+    let mut desk = Desk {
+        numbers,
+        answers,
+        symbols: &mut [Counter::Low(0); SYMBOLS],
+    };
+    runs::over_image(image, sizes, script, &mut desk);
 }
 
 // Runs a script over lent symbols and marks with an image's contents, and puts the symbols back into the image. Steps that damage do nothing.
@@ -71,7 +87,16 @@ pub extern "C" fn tray_byte_array(
     answers: &mut [usize],
 ) {
     let sizes = sizes_of(data_rows, parity_rows, block_length, card_length);
-    byte_runs::over_array(image, sizes, script, numbers, answers);
+    let mut desk = Desk {
+        numbers,
+        answers,
+        symbols: &mut [Byte(0); SYMBOLS],
+    };
+    let memory = Memory {
+        symbols: &mut [Byte(0); CAPACITY],
+        marks: &mut [0; CAPACITY],
+    };
+    runs::over_memory(image, memory, sizes, script, &mut desk);
 }
 
 // Works the parity rows of an image so many times, over the image or over lent memory with its contents.
@@ -88,9 +113,13 @@ pub extern "C" fn tray_byte_parity(
 ) {
     let sizes = sizes_of(data_rows, parity_rows, block_length, card_length);
     if lent {
-        byte_runs::parity_over_array(image, sizes, times, numbers);
+        let memory = Memory {
+            symbols: &mut [Byte(0); CAPACITY],
+            marks: &mut [0; CAPACITY],
+        };
+        runs::parity_over_memory(image, memory, sizes, times, numbers);
     } else {
-        byte_runs::parity_over_image(image, sizes, times, numbers);
+        runs::parity_over_image::<Byte>(image, sizes, times, numbers);
     }
 }
 
@@ -107,7 +136,16 @@ pub extern "C" fn tray_counter_array(
     answers: &mut [usize],
 ) {
     let sizes = sizes_of(data_rows, parity_rows, block_length, card_length);
-    counter_runs::over_array(image, sizes, script, numbers, answers);
+    let mut desk = Desk {
+        numbers,
+        answers,
+        symbols: &mut [Counter::Low(0); SYMBOLS],
+    };
+    let memory = Memory {
+        symbols: &mut [Counter::Low(0); CAPACITY],
+        marks: &mut [0; CAPACITY],
+    };
+    runs::over_memory(image, memory, sizes, script, &mut desk);
 }
 
 // Works the parity rows of an image so many times, over the image or over lent memory with its contents.
@@ -124,9 +162,13 @@ pub extern "C" fn tray_counter_parity(
 ) {
     let sizes = sizes_of(data_rows, parity_rows, block_length, card_length);
     if lent {
-        counter_runs::parity_over_array(image, sizes, times, numbers);
+        let memory = Memory {
+            symbols: &mut [Counter::Low(0); CAPACITY],
+            marks: &mut [0; CAPACITY],
+        };
+        runs::parity_over_memory(image, memory, sizes, times, numbers);
     } else {
-        counter_runs::parity_over_image(image, sizes, times, numbers);
+        runs::parity_over_image::<Counter>(image, sizes, times, numbers);
     }
 }
 
@@ -144,7 +186,8 @@ pub extern "C" fn tray_byte_puts(
     puts: &mut [usize],
 ) -> usize {
     let sizes = sizes_of(data_rows, parity_rows, block_length, card_length);
-    byte_runs::puts(image, sizes, row, start, numbers, puts)
+    let mut buffer = [Byte(0); SYMBOLS];
+    runs::puts(image, sizes, row, start, numbers, &mut buffer, puts)
 }
 
 // Takes an image in, writes symbols, and writes down every put of both. It answers how many puts there were.
@@ -161,5 +204,6 @@ pub extern "C" fn tray_counter_puts(
     puts: &mut [usize],
 ) -> usize {
     let sizes = sizes_of(data_rows, parity_rows, block_length, card_length);
-    counter_runs::puts(image, sizes, row, start, numbers, puts)
+    let mut buffer = [Counter::Low(0); SYMBOLS];
+    runs::puts(image, sizes, row, start, numbers, &mut buffer, puts)
 }

@@ -2,9 +2,11 @@
 ghost use Rattle.std.specs.Prelude.{◌≡◌};
 ghost use Rattle.shelves.specs.Contents.{put_answer, after_put};
 
+use crate::answers::write_down;
 use algebra::Field;
-use shelves::{Got, Placed, Shelf};
+use shelves::{Got, Outside, Shelf};
 
+// Each put is a row, a place and a number, written down where there is room. C reads how many there were beside them.
 #[derive(Drop)]
 pub struct Recorded<'a, S> {
     inner: S,
@@ -23,16 +25,6 @@ impl<'a, S> Recorded<'a, S> {
 
     pub(crate) fn count(&self) -> usize {
         self.count
-    }
-}
-
-// Writes down a put as a row, a place and a number, where there is room.
-fn write_down(puts: &mut [usize], index: usize, put: [usize; 3]) {
-    for i in 0..3 {
-        let at = index.saturating_mul(3).saturating_add(i);
-        if at < puts.len() {
-            puts[at] = put[i];
-        }
     }
 }
 
@@ -56,8 +48,10 @@ where
         self.inner.get(row, place)
     }
 
-    fn put(&mut self, row: usize, place: usize, symbol: S::Symbol) -> Placed {
-        write_down(self.puts, self.count, [row, place, symbol.number()]);
+    fn put(&mut self, row: usize, place: usize, symbol: S::Symbol) -> Result<(), Outside> {
+        if let Some(room) = self.puts.get_mut(self.count.saturating_mul(3)..) {
+            write_down(room, &[row, place, symbol.number()]);
+        }
         self.count = self.count.saturating_add(1);
         self.inner.put(row, place, symbol)
     }

@@ -1,110 +1,179 @@
 // A script: one step after another, each a call with its arguments. It runs over a tray on any shelf.
-use crate::answers::{Answer, of_counts, of_done, of_entry, of_lowest, of_mended, of_verdict};
+use crate::answers::{Given, answer, write_down};
 use algebra::Field;
+use rules::Refusal;
 use shelves::Shelf;
 use tray::Tray;
 
-// A step is the number of a call and three numbers: a row, a start and a count, or what else the call takes.
+// The most symbols that a step reads or writes.
+pub const SYMBOLS: usize = 4200;
+
+#[derive(Clone, Copy)]
+pub enum Call {
+    Fit,
+    Intake,
+    Audit,
+    Read,
+    Write,
+    Cross,
+    Begin,
+    Step,
+    Totals,
+    Record,
+    First,
+    Mend,
+}
+
+// What a step does: a call, or damage to a byte of an image.
+#[derive(Clone, Copy)]
+pub enum Deed {
+    Call(Call),
+    Damage,
+}
+
+// C names deeds by numbers: the calls in the order of the rules, and damage. Every other number is a mend.
+impl From<usize> for Deed {
+    fn from(number: usize) -> Deed {
+        Deed::Call(match number {
+            0 => Call::Fit,
+            1 => Call::Intake,
+            2 => Call::Audit,
+            3 => Call::Read,
+            4 => Call::Write,
+            5 => Call::Cross,
+            6 => Call::Begin,
+            7 => Call::Step,
+            8 => Call::Totals,
+            9 => Call::Record,
+            10 => Call::First,
+            12 => return Deed::Damage,
+            _ => Call::Mend,
+        })
+    }
+}
+
+// A deed and three numbers: a row, a start and a count of symbols, or what else it takes.
 #[derive(Clone, Copy)]
 pub struct Step {
-    pub call: usize,
+    pub deed: Deed,
     pub first: usize,
     pub second: usize,
     pub count: usize,
 }
 
-// Beyond the twelve calls, a step may damage a byte of an image.
-pub const DAMAGE: usize = 12;
-
-// The most symbols that a step reads or writes.
-pub const SYMBOLS: usize = 4200;
-
-const WORDS: usize = 4;
-
-pub(crate) fn step_count(script: &[usize]) -> usize {
-    script.len() / WORDS
-}
-
-fn word(words: &[usize], at: usize) -> usize {
-    match words.get(at) {
-        Some(number) => *number,
-        None => 0,
-    }
-}
-
-// The step of an index; what the script is too short for is zero.
-pub(crate) fn step_at(script: &[usize], index: usize) -> Step {
-    let from = index.saturating_mul(WORDS);
-    Step {
-        call: word(script, from),
-        first: word(script, from.saturating_add(1)),
-        second: word(script, from.saturating_add(2)),
-        count: word(script, from.saturating_add(3)).min(SYMBOLS),
-    }
-}
-
-// Sets the symbols of a step's numbers.
-pub(crate) fn load<F: Field>(numbers: &[usize], from: usize, symbols: &mut [F]) {
-    for (i, slot) in symbols.iter_mut().enumerate() {
-        *slot = rows::element(word(numbers, from.saturating_add(i)));
-    }
-}
-
-// Writes the numbers of a step's symbols back, where there is room.
-fn unload<F: Field>(symbols: &[F], from: usize, numbers: &mut [usize]) {
-    for (i, symbol) in symbols.iter().enumerate() {
-        let at = from.saturating_add(i);
-        if at < numbers.len() {
-            numbers[at] = symbol.number();
+impl From<[usize; 4]> for Step {
+    fn from(words: [usize; 4]) -> Step {
+        let [deed, first, second, count] = words;
+        Step {
+            deed: Deed::from(deed),
+            first,
+            second,
+            count: count.min(SYMBOLS),
         }
     }
 }
 
-fn call<S: Shelf>(tray: &mut Tray<S>, step: &Step, symbols: &mut [S::Symbol]) -> Answer
-where
-    S::Symbol: Field,
-{
-    match step.call {
-        0 => of_done(tray.fit()),
-        1 => of_done(tray.intake()),
-        2 => of_verdict(tray.audit(step.first)),
-        3 => of_done(tray.read(step.first, step.second, symbols)),
-        4 => of_done(tray.write(step.first, step.second, symbols)),
-        5 => of_done(tray.cross()),
-        6 => of_done(tray.begin()),
-        7 => of_verdict(tray.step()),
-        8 => of_counts(tray.totals()),
-        9 => of_entry(tray.record(step.first)),
-        10 => of_lowest(tray.first()),
-        _ => of_mended(tray.mend()),
+// Sets the symbols of numbers, and those beyond the numbers to zero.
+pub(crate) fn load<F: Field>(numbers: &[usize], symbols: &mut [F]) {
+    for (i, symbol) in symbols.iter_mut().enumerate() {
+        *symbol = rows::element(numbers.get(i).copied().unwrap_or(0));
     }
 }
 
-// Makes one call, by its number in the order of the rules: 0 is fit and 11, as every other number, mend. Its symbols, lent to read and given to write, are `count` of the numbers, and come back as the call leaves them.
-pub(crate) fn make_call<S: Shelf>(
+// Writes the numbers of symbols back, where there is room.
+fn unload<F: Field>(symbols: &[F], numbers: &mut [usize]) {
+    for (number, symbol) in numbers.iter_mut().zip(symbols) {
+        *number = symbol.number();
+    }
+}
+
+fn make<S: Shelf>(
     tray: &mut Tray<S>,
-    step: &Step,
+    call: Call,
+    step: Step,
+    symbols: &mut [S::Symbol],
+) -> Result<Given, Refusal>
+where
+    S::Symbol: Field,
+{
+    match call {
+        Call::Fit => tray.fit().map(|()| Given::Done),
+        Call::Intake => tray.intake().map(|()| Given::Done),
+        Call::Audit => tray.audit(step.first).map(Given::Found),
+        Call::Read => tray
+            .read(step.first, step.second, symbols)
+            .map(|()| Given::Done),
+        Call::Write => tray
+            .write(step.first, step.second, symbols)
+            .map(|()| Given::Done),
+        Call::Cross => tray.cross().map(|()| Given::Done),
+        Call::Begin => tray.begin().map(|()| Given::Done),
+        Call::Step => tray.step().map(Given::Found),
+        Call::Totals => tray
+            .totals()
+            .map(|(sound, others)| Given::Counts(sound, others)),
+        Call::Record => tray.record(step.first).map(Given::from),
+        Call::First => tray.first().map(Given::Lowest),
+        Call::Mend => tray.mend().map(Given::Mended),
+    }
+}
+
+// Makes a call. Its symbols, lent to read and given to write, are the first of the numbers, and come back as the call leaves them.
+fn make_call<S: Shelf>(
+    tray: &mut Tray<S>,
+    call: Call,
+    step: Step,
     numbers: &mut [usize],
-    from: usize,
     buffer: &mut [S::Symbol],
-) -> Answer
+) -> Result<Given, Refusal>
 where
     S::Symbol: Field,
 {
     let count = step.count.min(buffer.len());
     let symbols = &mut buffer[..count];
-    load(numbers, from, symbols);
-    let answer = call(tray, step, symbols);
-    unload(symbols, from, numbers);
-    answer
+    load(numbers, symbols);
+    let answered = make(tray, call, step, symbols);
+    unload(symbols, numbers);
+    answered
 }
 
-// Writes down an answer, where there is room.
-pub(crate) fn note(answers: &mut [usize], index: usize, answer: &Answer) {
-    for i in 0..5 {
-        let at = index.saturating_mul(5).saturating_add(i);
-        if at < answers.len() {
-            answers[at] = answer[i];
+// What a script works on: the numbers of the symbols that its steps take and give, one step after another, room for their answers, and a buffer for the
+// symbols of one step.
+// The script stands beside it: while its slice is lent, no other part of a desk could be changed.
+#[derive(Drop)]
+pub struct Desk<'a, F> {
+    pub numbers: &'a mut [usize],
+    pub answers: &'a mut [usize],
+    pub symbols: &'a mut [F],
+}
+
+impl<'a, F: Field> Desk<'a, F> {
+    // Runs a script over a tray, four words a step; `damage` is how a step damages the tray.
+    pub(crate) fn run<S: Shelf<Symbol = F>, D: Fn(&mut Tray<S>, Step)>(
+        &mut self,
+        script: &[usize],
+        tray: &mut Tray<S>,
+        damage: D,
+    )
+        requires { D.IsAlwaysCallable damage }
+    {
+        let mut from: usize = 0;
+        for (index, words) in script.as_chunks::<4>().0.iter().enumerate() {
+            let step = Step::from(*words);
+            let answered = match step.deed {
+                Deed::Call(call) => {
+                    let from = from.min(self.numbers.len());
+                    make_call(tray, call, step, &mut self.numbers[from..], self.symbols)
+                }
+                Deed::Damage => {
+                    damage(tray, step);
+                    Ok(Given::Done)
+                }
+            };
+            from = from.saturating_add(step.count);
+            if let Some(room) = self.answers.get_mut(index.saturating_mul(5)..) {
+                write_down(room, &answer(answered));
+            }
         }
     }
 }

@@ -4,7 +4,7 @@ use Rattle.std.specs.Borrow.{MutBor}
 use Rattle.byte_field.specs.declared.Byte.{Byte}
 use Rattle.byte_field.specs.Meaning.{byte_symbol}
 use Rattle.counter_field.specs.declared.Counter.{Counter}
-use Rattle.counter_field.specs.Meaning.{counter_symbol, counter_number}
+use Rattle.counter_field.specs.Meaning.{counter_symbol}
 use Rattle.shelves.specs.Contents.{Contents}
 use Rattle.image_shelves.specs.Layout.{image_contents, image_spot, put_at}
 
@@ -26,9 +26,3 @@ pub record Lent (given held : MutBor (List ℕ)) : Type 0 where
 pub record Stored (kind width : ℕ) (before : MutBor (List ℕ)) (row place v : ℕ) (after : MutBor (List ℕ)) : Type 0 where
   pub bytes : after.now ≡ put_at width (image_spot kind width before.now row place) v before.now
   pub same : after.ghost_name ≡ before.ghost_name
-
-abbrev pub ByteStored : MutBor (List ℕ) → ℕ → ℕ → Byte → MutBor (List ℕ) → Type 0
-ByteStored before row place x = Stored 1 1 before row place x.0
-
-abbrev pub CounterStored : MutBor (List ℕ) → ℕ → ℕ → Counter → MutBor (List ℕ) → Type 0
-CounterStored before row place x = Stored 2 3 before row place (counter_number x)

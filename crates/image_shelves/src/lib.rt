@@ -1,20 +1,17 @@
-// Shelves over images in lent bytes: generic functions over any coded field, and a thin type for each field.
+// Shelves over images in lent bytes: generic functions over any coded field, and a thin type over them for each field.
 #![tactic(auto)]
 
 ghost use Rattle.std.specs.Prelude.{◌≡◌};
 ghost use Rattle.image_shelves.specs.Layout.{head_if_own, image_spot, image_contents, put_at, SpotWithin};
 ghost use Rattle.shelves.specs.Contents.{get_answer, put_answer, after_put};
 
-use algebra::{CodedField, Field};
+use algebra::CodedField;
 use images::Head;
-use shelves::{Got, Placed};
+use shelves::{Got, Outside};
 
-mod byte_image;
-mod counter_image;
+mod image;
 
-pub use byte_image::ByteImage;
-pub use counter_image::CounterImage;
-use shelves::Shelf;
+pub use image::{ByteImage, CounterImage, ImageShelf};
 
 // Where the mark of a place lies in the bytes, and where its code begins.
 #[derive(Clone, Copy)]
@@ -27,36 +24,22 @@ pub struct Spot {
 fn own_head<F: CodedField>(bytes: &[u8]) -> Option<Head>
     ensures { result ≡ head_if_own F.CodedField.kind F.CodedField.width bytes.now }
 {
-    match images::check(bytes) {
-        Ok(head) => {
-            if head.field.number() == F::field_number()
-                && head.field.code_width() == F::code_width()
-            {
-                Some(head)
-            } else {
-                None
-            }
-        }
-        Err(_) => None,
-    }
+    images::check(bytes).ok().filter(|head| {
+        u8::from(head.field) == F::field_number() && head.field.code_width() == F::code_width()
+    })
 }
 
+// This and the next are a line each: one function that takes the head's method would be no shorter.
 pub fn image_rows<F: CodedField>(bytes: &[u8]) -> usize
     ensures { result ≡ (image_contents F.CodedField.kind F.CodedField.width F.Field.algebra.size F.Field.symbol bytes.now).rows }
 {
-    match own_head::<F>(bytes) {
-        Some(head) => head.rows(),
-        None => 0,
-    }
+    own_head::<F>(bytes).map_or(0, |head| head.rows())
 }
 
 pub fn image_places<F: CodedField>(bytes: &[u8]) -> usize
     ensures { result ≡ (image_contents F.CodedField.kind F.CodedField.width F.Field.algebra.size F.Field.symbol bytes.now).places }
 {
-    match own_head::<F>(bytes) {
-        Some(head) => head.places(),
-        None => 0,
-    }
+    own_head::<F>(bytes).map_or(0, |head| head.places())
 }
 
 fn find_spot<F: CodedField>(bytes: &[u8], row: usize, place: usize) -> Option<Spot>
@@ -81,33 +64,29 @@ pub fn image_get<F: CodedField>(bytes: &[u8], row: usize, place: usize) -> Got<F
 {
     match find_spot::<F>(bytes, row, place) {
         None => Got::Outside,
-        Some(spot) => {
-            if bytes[spot.mark] != 1 {
-                return Got::Hole;
-            }
+        Some(spot) if bytes[spot.mark] == 1 => {
             let from = spot.code;
-            match F::decode(&bytes[from..from + F::code_width()]) {
-                Some(symbol) => Got::Symbol(symbol),
-                None => Got::Hole,
-            }
+            F::decode(&bytes[from..from + F::code_width()]).map_or(Got::Hole, Got::Symbol)
         }
+        Some(_) => Got::Hole,
     }
 }
 
-pub fn image_put<F: CodedField>(bytes: &mut [u8], row: usize, place: usize, symbol: F) -> Placed
+pub fn image_put<F: CodedField>(
+    bytes: &mut [u8],
+    row: usize,
+    place: usize,
+    symbol: F,
+) -> Result<(), Outside>
     ensures answer { result ≡ put_answer (image_contents F.CodedField.kind F.CodedField.width F.Field.algebra.size F.Field.symbol bytes.old) row place }
-    ensures after { image_contents F.CodedField.kind F.CodedField.width F.Field.algebra.size F.Field.symbol bytes.new ≡ after_put (image_contents F.CodedField.kind F.CodedField.width F.Field.algebra.size F.Field.symbol bytes.old) row place (F.Field.symbol (F.Field.algebra.number (F.Field.meaning symbol))) }
+    ensures after { image_contents F.CodedField.kind F.CodedField.width F.Field.algebra.size F.Field.symbol bytes.new ≡ after_put (image_contents F.CodedField.kind F.CodedField.width F.Field.algebra.size F.Field.symbol bytes.old) row place symbol }
     ensures stored { bytes.new ≡ put_at F.CodedField.width (image_spot F.CodedField.kind F.CodedField.width bytes.old row place) (F.Field.algebra.number (F.Field.meaning symbol)) bytes.old }
 {
-    match find_spot::<F>(bytes, row, place) {
-        None => Placed::Outside,
-        Some(spot) => {
-            bytes[spot.mark] = 1;
-            let from = spot.code;
-            let _ = symbol.encode(&mut bytes[from..from + F::code_width()]);
-            Placed::Done
-        }
-    }
+    let spot = find_spot::<F>(bytes, row, place).ok_or(Outside)?;
+    bytes[spot.mark] = 1;
+    let from = spot.code;
+    let _ = symbol.encode(&mut bytes[from..from + F::code_width()]);
+    Ok(())
 }
 
 #[cfg(test)]

@@ -1,4 +1,5 @@
 use super::*;
+use algebra::Field;
 use byte_field::Byte;
 use counter_field::Counter;
 use shelves::{ArrayShelf, Shelf};
@@ -26,10 +27,10 @@ fn bytes_get_and_put(rt: HostRuntime) {
     assert_eq!(rt; shelf.get(1, 2), Got::Symbol(Byte(22)));
     assert_eq!(rt; shelf.get(2, 0), Got::Outside);
     assert_eq!(rt; shelf.get(0, 3), Got::Outside);
-    assert_eq!(rt; shelf.put(1, 0, Byte(99)), Placed::Done);
-    assert_eq!(rt; shelf.put(1, 2, Byte(98)), Placed::Done);
-    assert_eq!(rt; shelf.put(2, 0, Byte(97)), Placed::Outside);
-    assert_eq!(rt; shelf.put(0, 3, Byte(96)), Placed::Outside);
+    assert_eq!(rt; shelf.put(1, 0, Byte(99)), Ok(()));
+    assert_eq!(rt; shelf.put(1, 2, Byte(98)), Ok(()));
+    assert_eq!(rt; shelf.put(2, 0, Byte(97)), Err(Outside));
+    assert_eq!(rt; shelf.put(0, 3, Byte(96)), Err(Outside));
     assert_eq!(rt; shelf.get(1, 0), Got::Symbol(Byte(99)));
     assert_eq!(rt; shelf.get(1, 1), Got::Symbol(Byte(21)));
     assert_eq!(rt; shelf.get(1, 2), Got::Symbol(Byte(98)));
@@ -45,18 +46,14 @@ fn counters_get_and_put(rt: HostRuntime) {
     assert_eq!(rt; shelf.get(1, 0), Got::Hole);
     assert_eq!(rt; shelf.get(1, 1), Got::Hole);
     assert_eq!(rt; shelf.get(1, 2), Got::Symbol(Counter::Low(258)));
-    assert_eq!(rt; shelf.put(1, 1, Counter::Top), Placed::Done);
+    assert_eq!(rt; shelf.put(1, 1, Counter::Top), Ok(()));
     assert_eq!(rt; shelf.get(1, 1), Got::Symbol(Counter::Top));
     assert_eq!(rt; shelf.get(1, 2), Got::Symbol(Counter::Low(258)));
 }
 
-fn byte_sizes(bytes: &mut [u8]) -> (usize, usize) {
-    let shelf = ByteImage::over(bytes);
-    (shelf.rows(), shelf.places())
-}
-
-fn counter_sizes(bytes: &mut [u8]) -> (usize, usize) {
-    let shelf = CounterImage::over(bytes);
+// The sizes of a shelf of the field over these bytes.
+fn sizes<F: CodedField>(bytes: &mut [u8]) -> (usize, usize) {
+    let shelf = ImageShelf::<F>::over(bytes);
     (shelf.rows(), shelf.places())
 }
 
@@ -64,15 +61,15 @@ fn counter_sizes(bytes: &mut [u8]) -> (usize, usize) {
 fn other_lengths_and_other_fields(rt: HostRuntime) {
     let mut bytes = BYTES;
     let mut counters = COUNTERS;
-    assert_eq!(rt; counter_sizes(&mut bytes), (0, 0));
-    assert_eq!(rt; byte_sizes(&mut counters), (0, 0));
-    assert_eq!(rt; counter_sizes(&mut counters), (2, 3));
-    assert_eq!(rt; byte_sizes(&mut []), (0, 0));
-    assert_eq!(rt; byte_sizes(&mut [1, 0, 0, 0, 0]), (0, 0));
-    assert_eq!(rt; byte_sizes(&mut [1, 0, 0, 2, 1, 1]), (0, 259));
-    assert_eq!(rt; byte_sizes(&mut [1, 1, 0, 0, 0, 1, 1]), (0, 0));
-    assert_eq!(rt; byte_sizes(&mut [1, 1, 0, 0, 0, 1, 1, 7]), (1, 1));
-    assert_eq!(rt; byte_sizes(&mut [1, 1, 0, 0, 0, 1, 1, 7, 7]), (0, 0));
+    assert_eq!(rt; sizes::<Counter>(&mut bytes), (0, 0));
+    assert_eq!(rt; sizes::<Byte>(&mut counters), (0, 0));
+    assert_eq!(rt; sizes::<Counter>(&mut counters), (2, 3));
+    assert_eq!(rt; sizes::<Byte>(&mut []), (0, 0));
+    assert_eq!(rt; sizes::<Byte>(&mut [1, 0, 0, 0, 0]), (0, 0));
+    assert_eq!(rt; sizes::<Byte>(&mut [1, 0, 0, 2, 1, 1]), (0, 259));
+    assert_eq!(rt; sizes::<Byte>(&mut [1, 1, 0, 0, 0, 1, 1]), (0, 0));
+    assert_eq!(rt; sizes::<Byte>(&mut [1, 1, 0, 0, 0, 1, 1, 7]), (1, 1));
+    assert_eq!(rt; sizes::<Byte>(&mut [1, 1, 0, 0, 0, 1, 1, 7, 7]), (0, 0));
 }
 
 // What a shelf answers at every place and one beyond, before and after a put over each hole: a number, or how the answer was none.

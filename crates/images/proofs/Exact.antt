@@ -1,5 +1,5 @@
 -- The check accepts exactly the bytes that are laid out as an image.
-use Rattle.std.proofs.Common.{◌≡◌, ℕ, ◌+◌, ◌*◌, ◌<◌, ◌≤◌, cond, eqb, ltb, List, [], ◌∷◌, ◌++◌, length, get_or, take, drop, Some, None, Ok, Err, Option, Result, sym, refl, ap, ◌∙◌, subst, ap₂, mul-one, mul-add, arith, lit<, length-append, length-drop, length-take, le-ltb, eq-eqb, ne_eqb, eqb-true}
+use Rattle.std.proofs.Common.{◌≡◌, ℕ, ◌+◌, ◌*◌, ◌<◌, ◌≤◌, cond, eqb, ltb, List, [], ◌∷◌, ◌++◌, length, get_or, take, drop, Some, None, Ok, Err, Option, Result, sym, refl, ap, ◌∙◌, subst, ap₂, mul-one, mul-add, arith, lit<, length-append, length-drop, length-take, le-ltb, eq-eqb, eqb-true}
 use Rattle.std.proofs.lemmas.List.{take-append-drop}
 use Rattle.algebra.proofs.Cases.{by_cases}
 use Rattle.images.specs.declared.FieldKind.{FieldKind}
@@ -33,15 +33,9 @@ parts s w rest e =
     (simp length-take (omega arith), simp length-drop (omega arith))
 
 -- with the head in hand, the length decides
-module _ (bytes : List ℕ) (f : FieldKind) (h : Head) (long : 6 ≤ length bytes) (kind : field_numbered (get_or bytes 0 0) ≡ Some f) (is : h ≡ head_of f bytes) where
-  whole : checked bytes ≡ long_enough bytes h
-  whole = enough bytes long ∙ ap (of_field bytes) kind ∙ ap (long_enough bytes) (sym is)
-
-  pub of_length : length bytes ≡ image_length h → checked bytes ≡ Ok h
-  of_length e = whole ∙ rw (eq-eqb (length bytes) (image_length h) e)
-
-  pub of_other_length : (length bytes ≡ image_length h → ⊥) → checked bytes ≡ Err WrongLength
-  of_other_length e = whole ∙ rw (ne_eqb (length bytes) (image_length h) e)
+of_length : (bytes : List ℕ) (f : FieldKind) (h : Head) → 6 ≤ length bytes → field_numbered (get_or bytes 0 0) ≡ Some f → h ≡ head_of f bytes → length bytes ≡ image_length h → checked bytes ≡ Ok h
+of_length bytes f h long kind is e =
+    enough bytes long ∙ ap (of_field bytes) kind ∙ ap (long_enough bytes) (sym is) ∙ rw (eq-eqb (length bytes) (image_length h) e)
 
 accepted : (h : Head) (b : List ℕ) → Image h b → checked b ≡ Ok h
 accepted h b i =

@@ -1,9 +1,13 @@
 // The image of a tray: the head, and the check of an image's bytes.
 #![tactic(auto)]
 
-ghost use Rattle.std.specs.Prelude.{◌≡◌, ◌≤◌, length};
-ghost use Rattle.images.specs.Image.{field_number, code_width, field_numbered, row_count, place_count, image_length, refusal_number, head_of, checked};
+ghost use Rattle.std.specs.Prelude.{◌≡◌, ◌≤◌, Some, ok_or};
+ghost use Rattle.images.specs.declared.ImageRefusal.TheVariants.{UnknownField};
+ghost use Rattle.images.specs.Image.{field_number, code_width, field_numbered, row_count, place_count, image_length, refusal_number, checked};
 ghost use Rattle.images.specs.Layout.{ExactlyTheImages};
+ghost use Rattle.images.specs.Text.{head_text};
+
+use std::fmt;
 
 // The field that an image's symbols belong to.
 #[derive(Clone, Copy, PartialEq, Eq, Debug)]
@@ -13,26 +17,6 @@ pub enum FieldKind {
 }
 
 impl FieldKind {
-    // The field of this number, where there is one.
-    pub fn numbered(number: u8) -> Option<FieldKind>
-        ensures { result ≡ field_numbered number }
-    {
-        match number {
-            1 => Some(FieldKind::Byte),
-            2 => Some(FieldKind::Counter),
-            _ => None,
-        }
-    }
-
-    pub fn number(self) -> u8
-        ensures { result ≡ field_number self }
-    {
-        match self {
-            FieldKind::Byte => 1,
-            FieldKind::Counter => 2,
-        }
-    }
-
     // How many bytes code one symbol.
     pub fn code_width(self) -> usize
         ensures value { result ≡ code_width self }
@@ -41,6 +25,33 @@ impl FieldKind {
         match self {
             FieldKind::Byte => 1,
             FieldKind::Counter => 3,
+        }
+    }
+}
+
+// The field of this number, where there is one.
+impl TryFrom<u8> for FieldKind {
+    type Error = ImageRefusal;
+
+    ghost try_from_gives = { λ number r. r ≡ ok_or (field_numbered number) UnknownField };
+
+    fn try_from(number: u8) -> Result<FieldKind, ImageRefusal> {
+        match number {
+            1 => Ok(FieldKind::Byte),
+            2 => Ok(FieldKind::Counter),
+            _ => Err(ImageRefusal::UnknownField),
+        }
+    }
+}
+
+// The number of a field.
+impl From<FieldKind> for u8 {
+    ghost from_gives = { λ field number. number ≡ field_number field };
+
+    fn from(field: FieldKind) -> u8 {
+        match field {
+            FieldKind::Byte => 1,
+            FieldKind::Counter => 2,
         }
     }
 }
@@ -56,20 +67,6 @@ pub struct Head {
 }
 
 impl Head {
-    // What the first six bytes say, once their field is known.
-    fn read(field: FieldKind, bytes: &[u8]) -> Head
-        requires { 6 ≤ length bytes.now }
-        ensures { result ≡ head_of field bytes.now }
-    {
-        Head {
-            field,
-            data_rows: bytes[1],
-            parity_rows: bytes[2],
-            card_length: bytes[3],
-            block_length: u16::from_be_bytes([bytes[4], bytes[5]]),
-        }
-    }
-
     // Data rows and parity rows.
     pub fn rows(&self) -> usize
         ensures value { result ≡ row_count self.now }
@@ -94,6 +91,26 @@ impl Head {
     }
 }
 
+// The field number, k, p, n and m: n stands before m here, and after it in the head.
+impl fmt::Display for Head {
+    ghost output = { λ h. Some (head_text h) };
+
+    fn fmt<W: fmt::Write>(&self, f: &mut fmt::Formatter<W>) -> fmt::Result {
+        let Head {
+            field,
+            data_rows,
+            parity_rows,
+            card_length,
+            block_length,
+        } = *self;
+        let field = u8::from(field);
+        write!(
+            f,
+            "tray {field} {data_rows} {parity_rows} {block_length} {card_length}"
+        )
+    }
+}
+
 // Why bytes are no image.
 #[derive(Clone, Copy, PartialEq, Eq, Debug)]
 pub enum ImageRefusal {
@@ -103,6 +120,7 @@ pub enum ImageRefusal {
 }
 
 impl ImageRefusal {
+    // One of what a refusal tells, so it is no `From`.
     pub fn number(self) -> u8
         ensures { result ≡ refusal_number self }
     {
@@ -119,13 +137,16 @@ pub fn check(bytes: &[u8]) -> Result<Head, ImageRefusal>
     ensures value { result ≡ checked bytes.now }
     ensures exact { ExactlyTheImages bytes.now result }
 {
-    if bytes.len() < 6 {
+    let [number, data_rows, parity_rows, card_length, high, low, ..] = *bytes else {
         return Err(ImageRefusal::TooShort);
-    }
-    let Some(field) = FieldKind::numbered(bytes[0]) else {
-        return Err(ImageRefusal::UnknownField);
     };
-    let head = Head::read(field, bytes);
+    let head = Head {
+        field: FieldKind::try_from(number)?,
+        data_rows,
+        parity_rows,
+        card_length,
+        block_length: u16::from_be_bytes([high, low]),
+    };
     if bytes.len() != head.image_length() {
         return Err(ImageRefusal::WrongLength);
     }

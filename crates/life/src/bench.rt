@@ -1,10 +1,14 @@
 // A bench: a tray over a shelf that can be taken out, damaged and put back between calls.
 use algebra::Field;
 use own_shelf::OwnShelf;
+use rows::element;
 use rules::{Refusal, Sizes, Verdict};
 use shelves::{Got, Shelf};
 use std::alloc::{AllocError, Global};
 use tray::Tray;
+
+// The numbers of the symbols of some rows; none where there is a hole.
+pub type Rows = Vec<Vec<Option<usize>>>;
 
 #[derive(Drop)]
 pub struct Bench<F: Field> {
@@ -22,13 +26,6 @@ pub enum Damage {
     Wrong(usize, usize),
     // The symbol of a number is put at a place, by another hand than the tray's.
     Put(usize, usize),
-}
-
-pub fn element<F: Field>(number: usize) -> F {
-    match F::numbered(number) {
-        Some(element) => element,
-        None => F::zero(),
-    }
 }
 
 fn add_one<F: Field>(shelf: &mut OwnShelf<F>, row: usize, place: usize) {
@@ -54,8 +51,8 @@ fn damage_shelf<F: Field>(shelf: &mut OwnShelf<F>, row: usize, damage: Damage) {
 impl<F: Field> Bench<F> {
     // A tray of these sizes over a shelf of zeros, every place with this mark.
     pub fn over_zeros(heap: Global, sizes: Sizes, mark: u8) -> Result<Bench<F>, AllocError> {
-        let rows = sizes.data_rows.saturating_add(sizes.parity_rows);
-        let places = sizes.block_length.saturating_add(sizes.card_length);
+        let rows = sizes.rows();
+        let places = sizes.places();
         let symbols = vec![in heap; F::zero(); rows.saturating_mul(places)]?;
         let marks = vec![in heap; mark; rows.saturating_mul(places)]?;
         let tray = Tray::over(OwnShelf::over(rows, places, symbols, marks), sizes);
@@ -78,7 +75,7 @@ impl<F: Field> Bench<F> {
     }
 
     pub fn rows(&self) -> usize {
-        self.sizes.data_rows.saturating_add(self.sizes.parity_rows)
+        self.sizes.rows()
     }
 
     pub fn write(
@@ -87,10 +84,10 @@ impl<F: Field> Bench<F> {
         start: usize,
         numbers: &[usize],
     ) -> Result<Result<(), Refusal>, AllocError> {
-        let mut symbols = Vec::new(self.heap);
-        for number in numbers {
-            symbols.push(element(*number))?;
-        }
+        let symbols: Vec<F> = numbers
+            .iter()
+            .map(|number| element(*number))
+            .collect(self.heap)?;
         Ok(self.tray.write(row, start, &symbols))
     }
 
@@ -110,55 +107,48 @@ impl<F: Field> Bench<F> {
         self.put_back(shelf);
     }
 
-    // The numbers of a row's symbols; none where there is a hole.
+    // The numbers of a row's symbols.
     pub fn row(&mut self, row: usize) -> Result<Vec<Option<usize>>, AllocError> {
-        let mut numbers = Vec::new(self.heap);
         let shelf = self.take_shelf();
-        for place in 0..shelf.places() {
-            numbers.push(number_at(&shelf, row, place))?;
-        }
+        let numbers = (0..shelf.places())
+            .map(|place| number_at(&shelf, row, place))
+            .collect(self.heap);
         self.put_back(shelf);
-        Ok(numbers)
+        numbers
     }
 
-    // The numbers of all symbols, row after row.
-    pub fn all(&mut self) -> Result<Vec<Option<usize>>, AllocError> {
+    // The numbers of all rows.
+    pub fn all(&mut self) -> Result<Rows, AllocError> {
         let mut all = Vec::new(self.heap);
         for row in 0..self.rows() {
-            for number in &self.row(row)? {
-                all.push(*number)?;
-            }
+            all.push(self.row(row)?)?;
         }
         Ok(all)
-    }
-
-    // Whether all symbols have these numbers.
-    pub fn is_as(&mut self, before: &[Option<usize>]) -> Result<bool, AllocError> {
-        let now = self.all()?;
-        Ok(now.as_slice() == before)
     }
 
     pub fn all_sound(&self) -> bool {
         (0..self.rows()).all(|row| self.tray.audit(row) == Ok(Verdict::Sound))
     }
 
-    // Puts a row as it was, from the numbers of all symbols.
-    pub fn restore(&mut self, row: usize, all: &[Option<usize>]) {
-        let places = self
-            .sizes
-            .block_length
-            .saturating_add(self.sizes.card_length);
-        for place in 0..places {
-            let at = row.saturating_mul(places).saturating_add(place);
-            if let Some(Some(number)) = all.get(at) {
+    // Puts symbols of these numbers in a row; where there is none, the place stays as it is.
+    pub fn put_row(&mut self, row: usize, numbers: &[Option<usize>]) {
+        for (place, number) in numbers.iter().enumerate() {
+            if let Some(number) = number {
                 self.damage(row, Damage::Put(place, *number));
             }
         }
     }
 
-    pub fn restore_all(&mut self, all: &[Option<usize>]) {
-        for row in 0..self.rows() {
-            self.restore(row, all);
+    // Puts a row as it was, from the numbers of all rows.
+    pub fn restore(&mut self, row: usize, all: &Rows) {
+        if let Some(numbers) = all.get(row) {
+            self.put_row(row, numbers);
+        }
+    }
+
+    pub fn restore_all(&mut self, all: &Rows) {
+        for (row, numbers) in all.iter().enumerate() {
+            self.put_row(row, numbers);
         }
     }
 }

@@ -39,34 +39,30 @@ const COUNTER_BLOCKS: [&[usize]; 7] = [
     &[24_681, 10_362, 10, 61_692, 32_789],
 ];
 
-fn life<F: Field>(rt: &HostRuntime, bench: &mut Bench<F>, written: &[usize]) -> io::Result<()> {
-    stages::take_in(rt, bench)?;
-    stages::writes(rt, bench, written)?;
-    stages::round(rt, bench)?;
-    stages::each_damage(rt, bench)?;
-    stages::found_by_a_round(rt, bench)?;
-    stages::without_shelf(rt, bench)?;
-    stages::too_many(rt, bench)?;
-    stages::stale_row(rt, bench)?;
-    stages::stale_parity(rt, bench)
-}
-
-fn byte_life(rt: &HostRuntime) -> io::Result<()> {
-    println!(rt; "byte field")?;
-    let mut bench: Bench<Byte> = Bench::with_blocks(rt.alloc(), BYTE_SIZES, &BYTE_BLOCKS)?;
-    life(rt, &mut bench, &[7])?;
-    mends::mends::<Byte>(rt)?;
-    mends::widest(rt)
-}
-
-fn counter_life(rt: &HostRuntime) -> io::Result<()> {
-    println!(rt; "counter field")?;
-    let mut bench: Bench<Counter> = Bench::with_blocks(rt.alloc(), COUNTER_SIZES, &COUNTER_BLOCKS)?;
-    life(rt, &mut bench, &[65_536, 5])?;
-    mends::mends::<Counter>(rt)
+// A tray's life, and the mends of small trays over its field.
+fn life<F: Field>(
+    rt: &HostRuntime,
+    sizes: Sizes,
+    blocks: &[&[usize]],
+    written: &[usize],
+) -> io::Result<()> {
+    let mut bench: Bench<F> = Bench::with_blocks(rt.alloc(), sizes, blocks)?;
+    stages::take_in(rt, &mut bench)?;
+    stages::writes(rt, &mut bench, written)?;
+    stages::round(rt, &mut bench)?;
+    stages::each_damage(rt, &mut bench)?;
+    stages::found_by_a_round(rt, &mut bench)?;
+    stages::without_shelf(rt, &mut bench)?;
+    stages::too_many(rt, &mut bench)?;
+    stages::stale_row(rt, &mut bench)?;
+    stages::stale_parity(rt, &mut bench)?;
+    mends::mends::<F>(rt)
 }
 
 fn main(rt: HostRuntime) -> io::Result<()> {
-    byte_life(&rt)?;
-    counter_life(&rt)
+    println!(rt; "byte field")?;
+    life::<Byte>(&rt, BYTE_SIZES, &BYTE_BLOCKS, &[7])?;
+    mends::widest(&rt)?;
+    println!(rt; "counter field")?;
+    life::<Counter>(&rt, COUNTER_SIZES, &COUNTER_BLOCKS, &[65_536, 5])
 }

@@ -1,11 +1,11 @@
 // Sets of damaged rows, each mended from the rest.
-use crate::bench::{Bench, Damage};
+use crate::bench::{Bench, Damage, Rows};
 use crate::tell;
 use algebra::Field;
 use byte_field::Byte;
 use rules::{Refusal, Sizes};
 use std::alloc::{AllocError, Global};
-use std::io;
+use std::{fmt, io};
 
 // A number for each row and place, in both fields.
 fn filling<F: Field>(row: usize, place: usize) -> usize {
@@ -22,26 +22,27 @@ fn filled<F: Field>(heap: Global, sizes: Sizes) -> Result<Bench<F>, AllocError> 
     let mut bench: Bench<F> = Bench::over_zeros(heap, sizes, 1)?;
     let _ = bench.tray.intake();
     for row in 0..sizes.data_rows {
-        let mut numbers = Vec::new(heap);
-        for place in 0..sizes.block_length {
-            numbers.push(filling::<F>(row, place))?;
-        }
+        let numbers: Vec<usize> = (0..sizes.block_length)
+            .map(|place| filling::<F>(row, place))
+            .collect(heap)?;
         let _ = bench.write(row, 0, &numbers)?;
     }
     Ok(bench)
 }
 
-fn damage_of(sizes: Sizes, kind: usize) -> Damage {
+// The kinds of damage, one after another.
+fn damage_of(sizes: Sizes, index: usize) -> Damage {
     let card = sizes.block_length;
-    match kind % 4 {
-        0 => Damage::Hole(0),
-        1 => Damage::Hole(card),
-        2 => Damage::Wrong(card.saturating_add(1), 1),
-        _ => Damage::Wrong(0, 2),
-    }
+    let kinds = [
+        Damage::Hole(0),
+        Damage::Hole(card),
+        Damage::Wrong(card.saturating_add(1), 1),
+        Damage::Wrong(0, 2),
+    ];
+    kinds[index % kinds.len()]
 }
 
-// Damages the rows of a set: row r belongs to it where binary digit r of its number is 1.
+// Damages the rows of a set: row r belongs to it where binary digit r of its number is 1, so that counting goes over all sets.
 fn damage_rows<F: Field>(bench: &mut Bench<F>, set: usize) {
     let mut rest = set;
     for row in 0..bench.rows() {
@@ -62,41 +63,66 @@ enum Outcome {
 
 fn mended_set<F: Field>(
     bench: &mut Bench<F>,
-    before: &[Option<usize>],
+    before: &Rows,
     count: usize,
 ) -> Result<Outcome, AllocError> {
     let damaged = bench.all()?;
     match bench.tray.mend() {
-        Ok(mended) if mended == count && bench.is_as(before)? && bench.all_sound() => {
+        Ok(mended) if mended == count && bench.all()? == *before && bench.all_sound() => {
             Ok(Outcome::Mended)
         }
-        Err(Refusal::TooManyUnsound(unsound)) if unsound == count && bench.is_as(&damaged)? => {
+        Err(Refusal::TooManyUnsound(unsound)) if unsound == count && bench.all()? == damaged => {
             Ok(Outcome::Refused)
         }
         _ => Ok(Outcome::Neither),
     }
 }
 
-// How the sets of so many damaged rows came out: mended, refused, neither.
+// How many sets came out each way.
+#[derive(Clone, Copy, Default)]
+struct Outcomes {
+    mended: usize,
+    refused: usize,
+    neither: usize,
+}
+
+impl Outcomes {
+    fn count(&mut self, outcome: Outcome) {
+        let count = match outcome {
+            Outcome::Mended => &mut self.mended,
+            Outcome::Refused => &mut self.refused,
+            Outcome::Neither => &mut self.neither,
+        };
+        *count = count.saturating_add(1);
+    }
+}
+
+impl fmt::Display for Outcomes {
+    fn fmt<W: fmt::Write>(&self, f: &mut fmt::Formatter<W>) -> fmt::Result {
+        let Outcomes {
+            mended,
+            refused,
+            neither,
+        } = *self;
+        write!(f, "{mended} mended, {refused} refused, {neither} neither")
+    }
+}
+
+// How the sets of so many damaged rows came out.
 fn tally<F: Field>(
     bench: &mut Bench<F>,
-    before: &[Option<usize>],
+    before: &Rows,
     size: usize,
-) -> Result<(usize, usize, usize), AllocError> {
-    let (mut mended, mut refused, mut neither): (usize, usize, usize) = (0, 0, 0);
+) -> Result<Outcomes, AllocError> {
+    let mut outcomes = Outcomes::default();
     for set in 0..1usize << (bench.rows() % 8) {
-        if set.count_ones() as usize != size {
-            continue;
+        if set.count_ones() as usize == size {
+            damage_rows(bench, set);
+            outcomes.count(mended_set(bench, before, size)?);
+            bench.restore_all(before);
         }
-        damage_rows(bench, set);
-        match mended_set(bench, before, size)? {
-            Outcome::Mended => mended = mended.saturating_add(1),
-            Outcome::Refused => refused = refused.saturating_add(1),
-            Outcome::Neither => neither = neither.saturating_add(1),
-        }
-        bench.restore_all(before);
     }
-    Ok((mended, refused, neither))
+    Ok(outcomes)
 }
 
 // All sets of damaged rows of a tray with three data rows.
@@ -112,8 +138,8 @@ fn all_sets<F: Field>(rt: &HostRuntime, parity_rows: usize) -> io::Result<()> {
     tell::shelf(rt, &mut bench)?;
     let before = bench.all()?;
     for size in 0..=bench.rows() {
-        let (mended, refused, neither) = tally(&mut bench, &before, size)?;
-        println!(rt; "{size} damaged: {mended} mended, {refused} refused, {neither} neither")?;
+        let outcomes = tally(&mut bench, &before, size)?;
+        println!(rt; "{size} damaged: {outcomes}")?;
     }
     Ok(())
 }

@@ -129,11 +129,8 @@ pub fn too_many<F: Field>(rt: &HostRuntime, bench: &mut Bench<F>) -> io::Result<
 pub fn stale_row<F: Field>(rt: &HostRuntime, bench: &mut Bench<F>) -> io::Result<()> {
     println!(rt; "row 0 holds what row 1 holds")?;
     let before = bench.all()?;
-    for (place, number) in bench.row(1)?.iter().enumerate() {
-        if let Some(number) = number {
-            bench.damage(0, Damage::Put(place, *number));
-        }
-    }
+    let numbers = bench.row(1)?;
+    bench.put_row(0, &numbers);
     tell::verdict(rt, "audit of", 0, bench.tray.audit(0))?;
     tell::done(rt, "cross", bench.tray.cross())?;
     tell::counted(rt, "mend", bench.tray.mend())?;

@@ -1,32 +1,64 @@
 // Each call's answer in words, one line each.
-use crate::bench::Bench;
+use crate::bench::{Bench, Rows};
 use algebra::Field;
 use rules::{Entry, Refusal, Verdict};
-use std::io;
+use std::{fmt, io};
 
-pub fn done(rt: &HostRuntime, call: &str, answer: Result<(), Refusal>) -> io::Result<()> {
-    match answer {
-        Ok(()) => println!(rt; "{call}: done")?,
-        Err(refusal) => println!(rt; "{call}: refused {refusal}")?,
+// What an accepted call gives.
+#[derive(Clone, Copy)]
+enum Told {
+    Done,
+    Count(usize),
+    Found(Verdict),
+    Unread,
+    Totals(usize, usize),
+    First(Option<usize>),
+}
+
+// Beside ffi's for its own type: a program prints words, and C gets numbers.
+impl From<Entry> for Told {
+    fn from(entry: Entry) -> Told {
+        match entry {
+            Entry::Unread => Told::Unread,
+            Entry::Read(verdict) => Told::Found(verdict),
+        }
     }
-    Ok(())
+}
+
+impl fmt::Display for Told {
+    fn fmt<W: fmt::Write>(&self, f: &mut fmt::Formatter<W>) -> fmt::Result {
+        match *self {
+            Told::Done => write!(f, "done"),
+            Told::Count(count) => write!(f, "{count}"),
+            Told::Found(Verdict::Sound) => write!(f, "sound"),
+            Told::Found(Verdict::Hole(place)) => write!(f, "hole at {place}"),
+            Told::Found(Verdict::Card(component)) => write!(f, "card wrong at {component}"),
+            Told::Unread => write!(f, "unread"),
+            Told::Totals(sound, others) => write!(f, "{sound} sound, {others} not"),
+            Told::First(Some(row)) => write!(f, "row {row}"),
+            Told::First(None) => write!(f, "none"),
+        }
+    }
+}
+
+fn tell(
+    rt: &HostRuntime,
+    call: impl fmt::Display + Drop,
+    answer: Result<Told, Refusal>,
+) -> io::Result<()> {
+    match answer {
+        Ok(told) => println!(rt; "{call}: {told}"),
+        Err(refusal) => println!(rt; "{call}: refused {refusal}"),
+    }
+}
+
+// These say what an answer's value is: one function over all of them would leave that to each caller.
+pub fn done(rt: &HostRuntime, call: &str, answer: Result<(), Refusal>) -> io::Result<()> {
+    tell(rt, call, answer.map(|()| Told::Done))
 }
 
 pub fn counted(rt: &HostRuntime, call: &str, answer: Result<usize, Refusal>) -> io::Result<()> {
-    match answer {
-        Ok(count) => println!(rt; "{call}: {count}")?,
-        Err(refusal) => println!(rt; "{call}: refused {refusal}")?,
-    }
-    Ok(())
-}
-
-fn found(rt: &HostRuntime, call: &str, row: usize, verdict: Verdict) -> io::Result<()> {
-    match verdict {
-        Verdict::Sound => println!(rt; "{call} row {row}: sound")?,
-        Verdict::Hole(place) => println!(rt; "{call} row {row}: hole at {place}")?,
-        Verdict::Card(component) => println!(rt; "{call} row {row}: card wrong at {component}")?,
-    }
-    Ok(())
+    tell(rt, call, answer.map(Told::Count))
 }
 
 pub fn verdict(
@@ -35,37 +67,32 @@ pub fn verdict(
     row: usize,
     answer: Result<Verdict, Refusal>,
 ) -> io::Result<()> {
-    match answer {
-        Ok(verdict) => found(rt, call, row, verdict)?,
-        Err(refusal) => println!(rt; "{call} row {row}: refused {refusal}")?,
-    }
-    Ok(())
+    tell(
+        rt,
+        format_args!("{call} row {row}"),
+        answer.map(Told::Found),
+    )
 }
 
 pub fn record<F: Field>(rt: &HostRuntime, bench: &Bench<F>, row: usize) -> io::Result<()> {
-    match bench.tray.record(row) {
-        Ok(Entry::Unread) => println!(rt; "record of row {row}: unread")?,
-        Ok(Entry::Read(verdict)) => found(rt, "record of", row, verdict)?,
-        Err(refusal) => println!(rt; "record of row {row}: refused {refusal}")?,
-    }
-    Ok(())
+    tell(
+        rt,
+        format_args!("record of row {row}"),
+        bench.tray.record(row).map(Told::from),
+    )
 }
 
 pub fn totals<F: Field>(rt: &HostRuntime, bench: &mut Bench<F>) -> io::Result<()> {
-    match bench.tray.totals() {
-        Ok((sound, others)) => println!(rt; "totals: {sound} sound, {others} not")?,
-        Err(refusal) => println!(rt; "totals: refused {refusal}")?,
-    }
-    Ok(())
+    let totals = bench.tray.totals();
+    tell(
+        rt,
+        "totals",
+        totals.map(|(sound, others)| Told::Totals(sound, others)),
+    )
 }
 
 pub fn first<F: Field>(rt: &HostRuntime, bench: &Bench<F>) -> io::Result<()> {
-    match bench.tray.first() {
-        Ok(Some(row)) => println!(rt; "first: row {row}")?,
-        Ok(None) => println!(rt; "first: none")?,
-        Err(refusal) => println!(rt; "first: refused {refusal}")?,
-    }
-    Ok(())
+    tell(rt, "first", bench.tray.first().map(Told::First))
 }
 
 pub fn numbers(rt: &HostRuntime, what: &str, row: usize, all: &[usize]) -> io::Result<()> {
@@ -73,22 +100,22 @@ pub fn numbers(rt: &HostRuntime, what: &str, row: usize, all: &[usize]) -> io::R
     for number in all {
         print!(rt; " {number}")?;
     }
-    println!(rt)?;
-    Ok(())
+    println!(rt)
 }
 
 // A read of a row's whole block.
 pub fn read<F: Field>(rt: &HostRuntime, bench: &Bench<F>, row: usize) -> io::Result<()> {
     let mut buffer = vec![in rt.alloc(); F::zero(); bench.sizes.block_length]?;
-    if let Err(refusal) = bench.tray.read(row, 0, &mut buffer) {
-        println!(rt; "read of row {row}: refused {refusal}")?;
-        return Ok(());
+    match bench.tray.read(row, 0, &mut buffer) {
+        Ok(()) => {
+            let read: Vec<usize> = buffer
+                .iter()
+                .map(|symbol| symbol.number())
+                .collect(rt.alloc())?;
+            numbers(rt, "read of", row, &read)
+        }
+        Err(refusal) => println!(rt; "read of row {row}: refused {refusal}"),
     }
-    let mut read = Vec::new(rt.alloc());
-    for symbol in &buffer {
-        read.push(symbol.number())?;
-    }
-    numbers(rt, "read of", row, &read)
 }
 
 // What stands in a row, a hole as a dash.
@@ -100,8 +127,7 @@ pub fn row<F: Field>(rt: &HostRuntime, bench: &mut Bench<F>, row: usize) -> io::
             None => print!(rt; " -")?,
         }
     }
-    println!(rt)?;
-    Ok(())
+    println!(rt)
 }
 
 pub fn shelf<F: Field>(rt: &HostRuntime, bench: &mut Bench<F>) -> io::Result<()> {
@@ -112,25 +138,16 @@ pub fn shelf<F: Field>(rt: &HostRuntime, bench: &mut Bench<F>) -> io::Result<()>
 }
 
 // Whether every row is as before; the rows, where not.
-pub fn compared<F: Field>(
-    rt: &HostRuntime,
-    bench: &mut Bench<F>,
-    before: &[Option<usize>],
-) -> io::Result<()> {
-    if bench.is_as(before)? {
-        println!(rt; "all rows are as before")?;
-        return Ok(());
+pub fn compared<F: Field>(rt: &HostRuntime, bench: &mut Bench<F>, before: &Rows) -> io::Result<()> {
+    if bench.all()? == *before {
+        return println!(rt; "all rows are as before");
     }
     println!(rt; "not all rows are as before")?;
     shelf(rt, bench)
 }
 
 // The mend call, and whether it left every row as before.
-pub fn mend<F: Field>(
-    rt: &HostRuntime,
-    bench: &mut Bench<F>,
-    before: &[Option<usize>],
-) -> io::Result<()> {
+pub fn mend<F: Field>(rt: &HostRuntime, bench: &mut Bench<F>, before: &Rows) -> io::Result<()> {
     counted(rt, "mend", bench.tray.mend())?;
     compared(rt, bench, before)
 }

@@ -1,14 +1,17 @@
 -- Gathering the rows that are not sound, one row after the other.
-use Rattle.std.proofs.Common.{◌≡◌, ◌≢◌, ℕ, suc, ◌+◌, ◌<◌, ◌≤◌, Bool, true, false, cond, not, ◌||◌, eqb, List, [], ◌∷◌, length, take, set, get_or, sym, refl, ap, ◌∙◌, arith, add-one, add-zero, eq-eqb, below_more}
-use Rattle.std.specs.List.{list_any}
+use Rattle.std.proofs.Common.{◌≡◌, ℕ, suc, ◌+◌, ◌<◌, ◌≤◌, Bool, true, false, cond, not, ◌||◌, eqb, List, [], ◌∷◌, length, take, set, zero, min, ◌-◌, ◌^◌, sym, refl, ap, ap₂, ◌∙◌, arith, eq-eqb, below_more}
+use Rattle.std.specs.List.{list_any, count_by, range_with_len}
 use Rattle.std.proofs.lemmas.Bool.Decides.{nat_tests}
-use Rattle.std.proofs.lemmas.List.{take_more_set, length-take, get_or-take}
-use Rattle.std.proofs.lemmas.List.Folds.{list_any-append, list_any_at}
+use Rattle.std.proofs.lemmas.List.Sums.{sum_by-cons}
+use Rattle.std.proofs.lemmas.List.{take_more_set}
+use Rattle.std.proofs.lemmas.List.Folds.{list_any-append}
 use Rattle.algebra.specs.Algebra.{Field}
 use Rattle.rules.specs.Search.{counted}
+use Rattle.rules.proofs.Counted.{counted_add, counted_same}
 use Rattle.rules.specs.States.{State, k, p, sound, unsound_count}
 use Rattle.mending.specs.declared.Damage.{Damage}
 use Rattle.mending.specs.Plans.{flag, Gathered}
+use Rattle.mending.proofs.Picking.{counted_hit, counted_miss}
 
 -- a row is among the first few of a list
 abbrev pub among : List ℕ → ℕ → ℕ → Bool
@@ -31,15 +34,13 @@ module _ (sound : ℕ → Bool) (r : ℕ) (rows : List ℕ) (count : ℕ) (befor
   -- a sound row more
   pub listed_sound : sound r ≡ true → Listed sound (r + 1) rows count
   listed_sound e = record {
-    counts = before.counts ∙ sym (add-zero (counted r (λ row. not (sound row)))) ∙ ap (λ b. counted r (λ row. not (sound row)) + cond (not b) 1 0) (sym e)
-        ∙ ap (λ v. counted v (λ row. not (sound row))) (sym (add-one r));
+    counts = before.counts ∙ sym (counted_miss (λ row. not (sound row)) r (ap not e));
     below = λ few. below_more _ r (before.below few) (ap not (before.above few r (omega arith)) ∙ sym e);
     above = λ few row h. before.above few row (omega arith);
   }
 
   counts_more : sound r ≡ false → count + 1 ≡ counted (r + 1) (λ row. not (sound row))
-  counts_more e =
-      ap (λ (v : ℕ). v + 1) before.counts ∙ ap (λ b. counted r (λ row. not (sound row)) + cond (not b) 1 0) (sym e) ∙ ap (λ v. counted v (λ row. not (sound row))) (sym (add-one r))
+  counts_more e = ap (λ (v : ℕ). v + 1) before.counts ∙ sym (counted_hit (λ row. not (sound row)) r (ap not e))
 
   -- one that is not sound, and finds room
   pub listed_unsound : sound r ≡ false → count < length rows → Listed sound (r + 1) (set rows count r) (count + 1)
@@ -59,25 +60,23 @@ module _ (sound : ℕ → Bool) (r : ℕ) (rows : List ℕ) (count : ℕ) (befor
   pub listed_past : sound r ≡ false → 4 ≤ count → Listed sound (r + 1) rows (count + 1)
   listed_past e full = record { counts = counts_more e; below = λ few row h. absurd (omega arith); above = λ few row h. absurd (omega arith) }
 
--- the list has the row at an index that counts
-pub flagged : (damage : Damage) (row b : ℕ) → b < damage.count → b < length damage.rows → get_or damage.rows b 0 ≡ row → false ≡ flag damage row
-unfolding flag
-flagged damage row b h l e =
-    ap not (sym (list_any_at (λ unsound. eqb unsound row) (take damage.count damage.rows) b 0 (simp length-take (omega arith)) (ap (λ v. eqb v row) (get_or-take damage.count damage.rows b 0 h) ∙ eq-eqb _ _ e)))
+-- a count over a range
+counted_range : (test : ℕ → Bool) (a n : ℕ) → count_by test (range_with_len a n) ≡ counted n (λ i. test (a + i))
+counted_range test a zero = refl
+counted_range test a (suc n) =
+    let first : counted 1 (λ i. test (a + i)) ≡ cond (test a) 1 0 = let z : a + 0 ≡ a = omega arith in rw z (omega arith) in
+    let rest : counted n (λ i. test (a + 1 + i)) ≡ counted n (λ i. test (a + (1 + i))) = counted_same n _ _ (λ i h. let z : a + 1 + i ≡ a + (1 + i) = omega arith in ap test z) in
+    let more : suc n ≡ 1 + n = omega arith in
+    sum_by-cons (λ i. cond (test i) 1 0) a (range_with_len (a + 1) n) ∙ ap (λ c. cond (test a) 1 0 + c) (counted_range test (a + 1) n)
+    ∙ sym (ap (λ m. counted m (λ i. test (a + i))) more ∙ counted_add 1 n (λ i. test (a + i)) ∙ ap₂ (λ x y. x + y) first (sym rest))
 
--- or it does not
-pub not_flagged : (damage : Damage) (row : ℕ) → ((b : ℕ) → b < damage.count → b < length damage.rows → get_or damage.rows b 0 ≢ row) → true ≡ flag damage row
-unfolding flag
-not_flagged damage row none =
-    ap not (sym (none_among (take damage.count damage.rows) (λ b h.
-    let l : b < damage.count × b < length damage.rows = (let t = length-take damage.count damage.rows in (omega arith, omega arith)) in
-    λ e. none b l.0 l.1 (sym (get_or-take damage.count damage.rows b 0 l.0) ∙ e))))
-  where
-    none_among : (xs : List ℕ) → ((b : ℕ) → b < length xs → get_or xs b 0 ≢ row) → list_any (λ unsound. eqb unsound row) xs ≡ false
-    none_among [] f = refl
-    none_among (x ∷ xs) f =
-        let other : eqb x row ≡ false = (let ne : x ≢ row = f 0 (omega arith) in grind (arith, nat_tests)) in
-        rw other (none_among xs (λ b h. f (suc b) (omega arith)))
+-- so many rows from a start on, none of them past the largest number
+pub counted_from : (test : ℕ → Bool) (start n : ℕ) → start + n < 2 ^ 64 → count_by (λ i. test (min (start + i) (2 ^ 64 - 1))) (range_with_len 0 n) ≡ counted n (λ i. test (start + i))
+counted_from test start n h =
+    counted_range (λ i. test (min (start + i) (2 ^ 64 - 1))) 0 n ∙ counted_same n _ _ (λ i l. ap test (omega arith))
+
+pub counted_first : (test : ℕ → Bool) (n : ℕ) → n < 2 ^ 64 → count_by (λ i. test (min (0 + i) (2 ^ 64 - 1))) (range_with_len 0 n) ≡ counted n test
+counted_first test n h = counted_from test 0 n (omega arith) ∙ counted_same n _ _ (λ i l. ap test (omega arith))
 
 pub listed_all : {X : Type 0} (F : Field X) (s : State X) (damage : Damage) (r : ℕ) → r ≡ k s + p s → Listed (sound F s) r damage.rows damage.count → Gathered F s damage
 unfolding flag

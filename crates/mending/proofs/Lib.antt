@@ -1,4 +1,6 @@
 mod Numbers
+mod Picking
+mod Mapping
 mod Solving
 mod Planning
 mod Weighing

@@ -1,10 +1,15 @@
 -- Elements kept by their numbers.
-use Rattle.std.proofs.Common.{None, Option, Some, add-one, ap, eqb, eqb-true, lt-ltb, ltb, sym, true, ℕ, ◌+◌, ◌<◌, ◌∙◌, ◌≡◌}
-use Rattle.algebra.specs.Algebra.{Field, numbered}
+use Rattle.std.proofs.Common.{List, arith, add-one, ap, eqb, eqb-true, lt-ltb, ltb, sym, true, ℕ, ◌+◌, ◌<◌, ◌∙◌, ◌≡◌}
+use Rattle.algebra.specs.Algebra.{Field}
 use Rattle.algebra.proofs.Cases.{by_cases}
 use Rattle.algebra.proofs.Ring.{zero-mul}
 use Rattle.algebra.specs.Sum.{sum_to}
-use Rattle.mending.specs.Stored.{element_of}
+use Rattle.rows.specs.Weights.{element_of}
+use Rattle.rows.proofs.Making.{made}
+use Rattle.std.specs.Array.{IsFromFnResultFrom}
+use Rattle.std.specs.Fn.{Called}
+use denote.Param.Members.{Mut}
+use Rattle.mending.specs.Stored.{stored}
 
 module _ {A : Type 0} (F : Field A) where
   pub element_number : (x : A) → element_of F (F.number x) ≡ x
@@ -19,13 +24,8 @@ module _ {A : Type 0} (F : Field A) where
   unfolding element_of
   element_zero = by_cases (ltb 0 F.size) (λ h. rw h F.element_zero) (λ h. rw h)
 
-  pub numbered_some : (v : ℕ) (x : A) → Some x ≡ numbered F v → x ≡ element_of F v
-  unfolding element_of
-  numbered_some v x e = by_cases (ltb v F.size) (λ h. let k : ◌≡◌ {A = Option A} (Some x) (Some (F.element v)) = rw h at e in rw h cc) (λ h. let k : ◌≡◌ {A = Option A} (Some x) None = rw h at e in absurd cc)
-
-  pub numbered_none : (v : ℕ) → None ≡ numbered F v → F.zer ≡ element_of F v
-  unfolding element_of
-  numbered_none v e = by_cases (ltb v F.size) (λ h. let k : ◌≡◌ {A = Option A} None (Some (F.element v)) = rw h at e in absurd cc) (λ h. rw h)
+  pub element_numbered : (y : ℕ) (x : A) → F.number x ≡ y → element_of F y ≡ x
+  element_numbered y x e = ap (element_of F) (sym e) ∙ element_number x
 
   pub same_number : (x y : A) → eqb (F.number x) (F.number y) ≡ true → x ≡ y
   same_number x y e = sym (F.element_number x) ∙ ap F.element (eqb-true _ _ e) ∙ F.element_number y
@@ -36,3 +36,10 @@ module _ {A : Type 0} (F : Field A) where
 
   pub sum_passed : (n : ℕ) (w x : ℕ → A) → w n ≡ F.zer → sum_to F n (λ i. F.mul (w i) (x i)) ≡ sum_to F (n + 1) (λ i. F.mul (w i) (x i))
   sum_passed n w x e = sym (F.add-zero _) ∙ ap (F.add _) (sym (ap (λ v. F.mul v (x n)) e ∙ zero-mul F _)) ∙ sum_next n w x
+
+  -- an array made by `from_fn`, of the numbers of elements
+  pub numbers_made : {C : Type 0} (g : Mut C (ℕ × Unit {0}) ℕ) (c : C) (x : ℕ → A) → ((i y : ℕ) (q : C) → Called g c (i, tt) y q → (q ≡ c) × (F.number (x i) ≡ y))
+      → (ys : List ℕ) (count : ℕ) → IsFromFnResultFrom g c ys 0 count → (i : ℕ) → i < count → stored F ys i ≡ x i
+  numbers_made g c x each ys count is i h =
+      let at = made g c (λ i y. F.number (x i) ≡ y) each ys count 0 is i (omega arith) (omega arith) in
+      element_numbered _ _ (at.2 ∙ sym (at.1.1 0))

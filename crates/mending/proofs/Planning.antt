@@ -1,6 +1,5 @@
 -- From the array's solution to the equations of the used parity rows.
-use Rattle.std.proofs.Common.{◌≡◌, ℕ, ◌+◌, ◌<◌, ◌≤◌, Bool, true, not, ◌≢◌, sym, refl, ap, ◌∙◌, ap₂, subst, List, get_or, arith}
-use mathlib.Core.Path.{fun_ext}
+use Rattle.std.proofs.Common.{◌≡◌, ℕ, ◌+◌, ◌<◌, ◌≤◌, Bool, true, ◌≢◌, sym, ap, ◌∙◌, ap₂, subst, List, get_or, arith}
 use Rattle.std.proofs.lemmas.Bool.{and_parts, ltb-true}
 use Rattle.algebra.specs.Algebra.{Field, minus}
 use Rattle.algebra.specs.Sum.{sum_to}
@@ -10,7 +9,9 @@ use Rattle.algebra.proofs.Matrix.{exactly_one_solution}
 use Rattle.algebra.proofs.Sums.{sum_below}
 use Rattle.rules.specs.Search.{counted}
 use Rattle.rules.proofs.Counted.{select, select_rank, counted_before, counted_not}
-use Rattle.mending.specs.Plans.{Picked, lost, used_by, share, weight_in, Planned}
+use Rattle.mending.specs.declared.plans.Choice.{Choice}
+use Rattle.mending.specs.Picked.{Picked}
+use Rattle.mending.specs.Plans.{lost, used_by, share, weight_in, Planned}
 use Rattle.mending.proofs.Solving.{solve_same}
 
 module _ {A : Type 0} (F : Field A) where
@@ -63,47 +64,33 @@ module _ {A : Type 0} (F : Field A) (k p : ℕ) (sound : ℕ → Bool) where
       subst P (picked_is p (λ i. sound (k + i)) i _ (us (counted i (λ i. sound (k + i))) rank) h q.0)
       (each (counted i (λ i. sound (k + i))) (ltb-true _ _ q.1))
 
-  module _ (few : k ≤ 64) (four : p ≤ 4) (room : k + 4 ≤ F.size) (enough : counted k (lost F k sound) ≤ counted p (λ i. sound (k + i)))
-      (lost_at used_at : List ℕ) (weights : List (List ℕ)) where
-    abbrev Columns : ℕ → (ℕ → Bool) → List ℕ → Type 0
-    Columns bound test at = (b : ℕ) → b < 4 → b < counted bound test → Picked bound test b (get_or at b 0)
+  -- the weights solve the equations of the rows that are chosen
+  abbrev pub Weights : Choice → List (List ℕ) → Type 0
+  Weights choice weights =
+      Square F k choice.lost.count (λ a. get_or choice.used.at a 0) (λ b. get_or choice.lost.at b 0) → (row : ℕ) → row < k + p
+      → Solves F choice.lost.count (λ a. get_or choice.used.at a 0) (λ b. get_or choice.lost.at b 0) (λ a. share F k sound (get_or choice.used.at a 0) row) (weight_in F weights row)
 
-    abbrev Equations : Type 0
-    Equations =
-        Square F k (counted k (lost F k sound)) (λ a. get_or used_at a 0) (λ b. get_or lost_at b 0) → (row : ℕ) → row < k + p → row < 68
-        → Solves F (counted k (lost F k sound)) (λ a. get_or used_at a 0) (λ b. get_or lost_at b 0) (λ a. share F k sound (get_or used_at a 0) row) (weight_in F weights row)
+  -- a plan, from the rows that are chosen and the weights that solve their equations
+  pub planned_by : (choice : Choice) (weights : List (List ℕ)) → k + 4 ≤ F.size → p ≤ 4 → counted k (lost F k sound) ≤ counted p (λ i. sound (k + i))
+      → choice.lost.count ≡ counted k (lost F k sound) → ((b : ℕ) → b < choice.lost.count → Picked k (lost F k sound) b (get_or choice.lost.at b 0))
+      → choice.used.count ≡ counted p (λ i. sound (k + i)) → ((a : ℕ) → a < choice.used.count → Picked p (λ i. sound (k + i)) a (get_or choice.used.at a 0))
+      → Weights choice weights → Planned F k p sound (record { choice = choice; weights = weights })
+  planned_by choice weights room four enough losts bs useds us solved = record {
+    count = losts;
+    picks = bs;
+    solves = λ row i h l e.
+        by_row used_at us' (λ i. sum_to F choice.lost.count (λ b. F.mul (coefficient F i (lost_at b)) (weight_in F weights row b)) ≡ share F k sound i row)
+        (λ a o. solved square row h a (omega (arith, losts))) i l e;
+  }
+    where
+      used_at : ℕ → ℕ
+      used_at a = get_or choice.used.at a 0
 
-    few_picked : (b : ℕ) → b < counted p (λ i. sound (k + i)) → b < 4
-    few_picked b h = omega (arith, counted_few p (λ i. sound (k + i)))
+      lost_at : ℕ → ℕ
+      lost_at b = get_or choice.lost.at b 0
 
-    planned_here : Columns k (lost F k sound) lost_at → Columns p (λ i. sound (k + i)) used_at → Equations
-        → Planned F k p sound (record { lost = lost_at; count = counted k (lost F k sound); weights = weights })
-    planned_here bs us solved =
-        let bs' : (b : ℕ) → b < counted k (lost F k sound) → Picked k (lost F k sound) b (get_or lost_at b 0) = λ b h. bs b (few_picked b (omega arith)) h in
-        let us' : (a : ℕ) → a < counted p (λ i. sound (k + i)) → Picked p (λ i. sound (k + i)) a (get_or used_at a 0) = λ a h. us a (few_picked a h) h in
-        let q = square_of (λ a. get_or used_at a 0) (λ b. get_or lost_at b 0) room four enough bs' us' in
-        record {
-          count = refl;
-          picks = bs';
-          solves = λ row i h l e.
-              by_row (λ a. get_or used_at a 0) us'
-              (λ i. sum_to F (counted k (lost F k sound)) (λ b. F.mul (coefficient F i (get_or lost_at b 0)) (weight_in F weights row b)) ≡ share F k sound i row)
-              (λ a o. solved q row h (omega arith) a o) i l e;
-        }
+      us' : (a : ℕ) → a < counted p (λ i. sound (k + i)) → Picked p (λ i. sound (k + i)) a (used_at a)
+      us' a h = us a (omega (arith, useds))
 
-    pub planned_by : (lost_count used_count : ℕ)
-        → lost_count ≡ counted k (λ i. not (sound (0 + i))) → ((b : ℕ) → b < 4 → b < lost_count → Picked k (λ i. not (sound (0 + i))) b (get_or lost_at b 0))
-        → used_count ≡ counted p (λ i. sound (k + i)) → ((b : ℕ) → b < 4 → b < used_count → Picked p (λ i. sound (k + i)) b (get_or used_at b 0))
-        → (lost_count ≤ 4 → Square F k lost_count (λ a. get_or used_at a 0) (λ b. get_or lost_at b 0) → (row : ℕ) → row < k + p → row < 68
-        → Solves F lost_count (λ a. get_or used_at a 0) (λ b. get_or lost_at b 0) (λ a. share F k sound (get_or used_at a 0) row) (weight_in F weights row))
-        → Planned F k p sound (record { lost = lost_at; count = lost_count; weights = weights })
-    planned_by lost_count used_count lc bs uc us solved =
-        let from_zero : ◌≡◌ {A = ℕ → Bool} (λ i. not (sound (0 + i))) (λ i. not (sound i)) = fun_ext λ i. let e : 0 + i ≡ i = omega arith in ap (λ j. not (sound j)) e in
-        let counts : lost_count ≡ counted k (lost F k sound) = lc ∙ ap (counted k) from_zero in
-        let bs' : (b : ℕ) → b < 4 → b < lost_count → Picked k (lost F k sound) b (get_or lost_at b 0) =
-        λ b f h. subst (λ test. Picked k test b (get_or lost_at b 0)) from_zero (bs b f h) in
-        let at_most : lost_count ≤ 4 = omega (arith, counts, enough, counted_few p (λ i. sound (k + i))) in
-        subst (λ c. Planned F k p sound (record { lost = lost_at; count = c; weights = weights })) (sym counts)
-        (planned_here (λ b f h. bs' b f (omega (arith, counts, h))) (λ a f h. us a f (omega (arith, uc, h)))
-        (subst (λ c. Square F k c (λ a. get_or used_at a 0) (λ b. get_or lost_at b 0) → (row : ℕ) → row < k + p → row < 68
-        → Solves F c (λ a. get_or used_at a 0) (λ b. get_or lost_at b 0) (λ a. share F k sound (get_or used_at a 0) row) (weight_in F weights row)) counts (solved at_most)))
+      square : Square F k choice.lost.count used_at lost_at
+      square = subst (λ c. Square F k c used_at lost_at) (sym losts) (square_of used_at lost_at room four enough (λ b h. bs b (omega (arith, losts))) us')

@@ -8,22 +8,18 @@ use Rattle.algebra.proofs.Sums.{sum_below}
 use Rattle.shelves.specs.Contents.{Contents, Cell, symbol, hole, inside, within, after_put}
 use Rattle.shelves.proofs.Contents.{put_cell, same_contents, hole_is}
 use Rattle.rules.specs.Codes.{component, table, table_block}
-use Rattle.rules.specs.States.{State, k, p, n, m, cell, fits, sound, unsound_count, with_cells, symbol_at, symbol_or}
+use Rattle.rules.specs.States.{State, k, p, n, m, cell, fits, sound, with_cells, symbol_at, symbol_or}
 use Rattle.rules.specs.Updates.{carded, Worked, mended_cells}
 use Rattle.rules.specs.Views.{seen_cell, seen_contents, seen, same_hole, element_at}
 use Rattle.rules.specs.declared.Sizes.{Sizes}
 use Rattle.rules.proofs.Rows.{Fitting, fitting}
 use Rattle.rules.proofs.Tables.{component_same, table_place}
 use Rattle.rows.specs.Cards.{Holds, partly}
-use Rattle.mending.specs.declared.Damage.{Damage}
-use Rattle.mending.specs.declared.Plan.{Plan}
-use Rattle.mending.specs.Plans.{flag, weight_of, Gathered, Planned}
+use Rattle.rows.proofs.Carding.{seen_put}
+use Rattle.mending.specs.declared.plans.Plan.{Plan}
+use Rattle.mending.specs.Plans.{flag, weight_of, Ready}
 use Rattle.mending.specs.Puts.{weighted_sum, worked, block_cells, row_cells, mended_below}
 use Rattle.mending.proofs.Stating.{made, no_weight_here}
-
-seen_put : {X A : Type 0} (meaning : X → A) (b : Bool) (x : X) (v : Cell X) → seen_cell meaning (cond b (symbol x) v) ≡ cond b (symbol (meaning x)) (seen_cell meaning v)
-seen_put meaning true x v = refl
-seen_put meaning false x v = refl
 
 never : (b : Bool) → (b && false) ≡ false
 never true = refl
@@ -56,16 +52,16 @@ module _ {X A : Type 0} (F : Field A) (meaning : X → A) (sizes : Sizes) where
     s = seen meaning sizes before
 
     -- where the tray fits, no sum of its sizes overflows
-    pub no_overflow : fits F s ≡ true → k s + p s < 2 ^ 63
+    no_overflow : fits F s ≡ true → k s + p s < 2 ^ 63
     no_overflow fit = let f = fitting F s fit in omega arith
 
     -- one place more of a block
-    module _ (weights : ℕ → A) (row place rows : ℕ) (now : Contents X) (x : X) (h : row < k s + p s) (l : place < n s) (all : fits F s ≡ true → rows ≡ k s + p s)
+    module _ (weights : ℕ → A) (row place : ℕ) (now : Contents X) (x : X) (h : row < k s + p s) (l : place < n s)
         (held : Holds F meaning sizes before (block_cells F meaning sizes weights row before place) now)
-        (is : meaning x ≡ weighted_sum F meaning now weights rows place) where
+        (is : k s + p s < 2 ^ 63 → meaning x ≡ weighted_sum F meaning now weights (k s + p s) place) where
       worked_here : fits F s ≡ true → meaning x ≡ worked F meaning sizes weights row before place
       worked_here fit =
-          is ∙ ap (λ v. weighted_sum F meaning now weights v place) (all fit)
+          is (no_overflow fit)
           ∙ sum_below F (k s + p s) _ _ (λ r o. ap (λ c. F.mul (weights r) (symbol_or F.zer c)) (held.at fit r place ∙ untouched r))
         where
           untouched : (r : ℕ) → block_cells F meaning sizes weights row before place r place ≡ seen_cell meaning (before.at r place)
@@ -139,9 +135,11 @@ module _ {X A : Type 0} (F : Field A) (meaning : X → A) (sizes : Sizes) where
               (λ o. rw o (held.at fit r t ∙ rw o))
 
     -- rows mended one after the other
-    module _ (fit : fits F s ≡ true) (few : unsound_count F s ≤ p s) (damage : Damage) (gathered : Gathered F s damage) (plan : Plan)
-        (planned : Planned F (k s) (p s) (flag damage) plan) (blocks : ℕ → ℕ → A) (w : Worked F s blocks) (row : ℕ) (h : row < k s + p s) (now : Contents X)
+    module _ (plan : Plan) (ready : Ready F s plan) (blocks : ℕ → ℕ → A) (w : Worked F s blocks) (row : ℕ) (h : row < k s + p s) (now : Contents X)
         (held : Holds F meaning sizes before (mended_below F meaning sizes blocks before row) now) where
+      fit : fits F s ≡ true
+      fit = ready.fit
+
       -- a sound row stays as it is
       mended_sound : (r t : ℕ) → sound F s r ≡ true → mended_cells F s blocks r t ≡ cell s r t
       mended_sound r t e =
@@ -185,19 +183,19 @@ module _ {X A : Type 0} (F : Field A) (meaning : X → A) (sizes : Sizes) where
             (λ q. beside (row + 1) r t refl (λ i. both_ways _ q (eq-eqb r row i)));
       }
 
-      module _ (weights : ℕ → A) (are : (source : ℕ) → source < k s + p s → weights source ≡ weight_of F (k s) (flag damage) plan row source) (off : sound F s row ≡ false)
+      module _ (weights : ℕ → A) (are : (source : ℕ) → source < k s + p s → weights source ≡ weight_of F (k s) (flag plan.choice.damage) plan row source) (off : sound F s row ≡ false)
           (after : Contents X) (put : Holds F meaning sizes now (row_cells F meaning sizes weights row now) after) where
-        term_is : (source t : ℕ) → source < k s + p s → F.mul (weights source) (element_at F meaning now source t) ≡ F.mul (weight_of F (k s) (flag damage) plan row source) (symbol_at F s source t)
+        term_is : (source t : ℕ) → source < k s + p s → F.mul (weights source) (element_at F meaning now source t) ≡ F.mul (weight_of F (k s) (flag plan.choice.damage) plan row source) (symbol_at F s source t)
         term_is source t l =
             ap (λ x. F.mul x (element_at F meaning now source t)) (are source l)
             ∙ by_cases (sound F s source)
-            (λ e. ap (λ c. F.mul (weight_of F (k s) (flag damage) plan row source) (symbol_or F.zer c)) (still source t e))
+            (λ e. ap (λ c. F.mul (weight_of F (k s) (flag plan.choice.damage) plan row source) (symbol_or F.zer c)) (still source t e))
             (λ e.
-            let z = no_weight_here F s fit few damage gathered plan planned row source h (inl off) l e in
+            let z = no_weight_here F s plan ready row source h (inl off) l e in
             ap (λ x. F.mul x (element_at F meaning now source t)) z ∙ zero-mul F _ ∙ sym (ap (λ x. F.mul x (symbol_at F s source t)) z ∙ zero-mul F _))
 
         block_made : (t : ℕ) → t < n s → worked F meaning sizes weights row now t ≡ table_block F (k s) blocks row t
-        block_made t l = sum_below F (k s + p s) _ _ (λ source o. term_is source t o) ∙ made F s fit few damage gathered plan planned blocks w row t h (inl off) l
+        block_made t l = sum_below F (k s + p s) _ _ (λ source o. term_is source t o) ∙ made F s plan ready blocks w row t h (inl off) l
 
         made_cell : (t : ℕ) → t < n s + m s
             → cond (ltb t (n s)) (symbol (worked F meaning sizes weights row now t)) (symbol (component F (n s) (worked F meaning sizes weights row now) (t - n s))) ≡ mended_cells F s blocks row t

@@ -11,8 +11,9 @@ use Rattle.algebra.proofs.Sums.{sum_below, sum-zero, sum-add, sum_mul, sum_excha
 use Rattle.rules.specs.Codes.{combination}
 use Rattle.rules.specs.Search.{counted}
 use Rattle.rules.proofs.Counted.{select, selected, select_rank, counted_before, sum_selected}
-use Rattle.mending.specs.declared.Plan.{Plan}
-use Rattle.mending.specs.Plans.{Picked, lost, used_by, share, weight_in, weight_of, Planned}
+use Rattle.mending.specs.declared.plans.Plan.{Plan}
+use Rattle.mending.specs.Picked.{Picked}
+use Rattle.mending.specs.Plans.{lost, used_by, share, weight_in, weight_of, Planned}
 use Rattle.mending.proofs.Planning.{square_of}
 
 -- the one of a rank, as it is picked
@@ -42,12 +43,12 @@ module _ {A : Type 0} (F : Field A) (k p : ℕ) (room : k + 4 ≤ F.size) (four 
   good i = sound (k + i)
 
   abbrev at : ℕ → ℕ
-  at b = get_or plan.lost b 0
+  at b = get_or plan.choice.lost.at b 0
 
   abbrev W : ℕ → ℕ → A
   W row b = weight_in F plan.weights row b
 
-  at_select : (b : ℕ) → b < plan.count → at b ≡ select k bad b
+  at_select : (b : ℕ) → b < plan.choice.lost.count → at b ≡ select k bad b
   at_select b h =
       let pick = planned.picks b h in
       sym (select_rank k bad (at b) pick.below pick.passes) ∙ ap (select k bad) pick.rank
@@ -71,7 +72,7 @@ module _ {A : Type 0} (F : Field A) (k p : ℕ) (room : k + 4 ≤ F.size) (four 
               rw (le-ltb row k more, ne_eqb row (k + i) ne)
         ]
 
-    pub idle : (b : ℕ) → b < plan.count → W row b ≡ F.zer
+    pub idle : (b : ℕ) → b < plan.choice.lost.count → W row b ≡ F.zer
     idle b l =
         both.1 (W row) solves b (omega (arith, planned.count)) ∙ sym (both.1 (λ c. F.zer) none b (omega (arith, planned.count)))
       where
@@ -100,7 +101,7 @@ module _ {A : Type 0} (F : Field A) (k p : ℕ) (room : k + 4 ≤ F.size) (four 
   own i row = cond (ltb row k && sound row) (coefficient F i row) F.zer
 
   abbrev through : ℕ → ℕ → A
-  through i row = sum_to F plan.count (λ b. F.mul (coefficient F i (at b)) (W row b))
+  through i row = sum_to F plan.choice.lost.count (λ b. F.mul (coefficient F i (at b)) (W row b))
 
   parity_weight : (i row : ℕ) → weight_of F k sound plan (k + i) row ≡ F.add (own i row) (through i row)
   parity_weight i row = let e : k + i - k ≡ i = omega arith in rw (le-ltb (k + i) k (omega arith), e)
@@ -119,7 +120,7 @@ module _ {A : Type 0} (F : Field A) (k p : ℕ) (room : k + 4 ≤ F.size) (four 
         | inr more ↦
             let e : k + (row - k) ≡ row = omega arith in
             ap (λ r. weight_of F k sound plan r source) (sym e) ∙ parity_weight (row - k) source
-            ∙ ap₂ F.add (rw_own (row - k) source off) (sum_none F plan.count _ (λ b o. ap (F.mul _) (idle source l off b o) ∙ mul-zero F _))
+            ∙ ap₂ F.add (rw_own (row - k) source off) (sum_none F plan.choice.lost.count _ (λ b o. ap (F.mul _) (idle source l off b o) ∙ mul-zero F _))
             ∙ add-zero F _
       ]
     where
@@ -160,17 +161,17 @@ module _ {A : Type 0} (F : Field A) (k p : ℕ) (room : k + 4 ≤ F.size) (four 
         here : (j : ℕ) → j < k → F.mul (own i j) (x j) ≡ F.mul (coefficient F i j) (sound_part j)
         here j l = by_cases (sound j) (λ e. rw (lt-ltb j k l, e)) (λ e. rw (lt-ltb j k l, e) (zero-mul F _ ∙ sym (mul-zero F _)))
 
-    lost_at : (b : ℕ) → b < plan.count → sum_to F (k + p) (λ row. F.mul (W row b) (x row)) ≡ lost_part (at b)
+    lost_at : (b : ℕ) → b < plan.choice.lost.count → sum_to F (k + p) (λ row. F.mul (W row b) (x row)) ≡ lost_part (at b)
     lost_at b h =
         let pick = planned.picks b h in
         sym (rw (not-true _ pick.passes, pick.rank))
 
     through_sum : (i : ℕ) → sum_to F (k + p) (λ row. F.mul (through i row) (x row)) ≡ sum_to F k (λ j. F.mul (coefficient F i j) (lost_part j))
     through_sum i =
-        sum_below F (k + p) _ _ (λ row l. sum_times F plan.count _ (x row) ∙ sum_below F plan.count _ _ (λ b o. mul_assoc F _ _ _))
-        ∙ sum_exchange F (k + p) plan.count (λ row b. F.mul (coefficient F i (at b)) (F.mul (W row b) (x row)))
-        ∙ sum_below F plan.count _ _ (λ b o. sum_mul F (k + p) (coefficient F i (at b)) (λ row. F.mul (W row b) (x row)) ∙ ap (F.mul (coefficient F i (at b))) (lost_at b o))
-        ∙ sum_below F plan.count _ _ (λ b o. ap (λ j. F.mul (coefficient F i j) (lost_part j)) (at_select b o))
+        sum_below F (k + p) _ _ (λ row l. sum_times F plan.choice.lost.count _ (x row) ∙ sum_below F plan.choice.lost.count _ _ (λ b o. mul_assoc F _ _ _))
+        ∙ sum_exchange F (k + p) plan.choice.lost.count (λ row b. F.mul (coefficient F i (at b)) (F.mul (W row b) (x row)))
+        ∙ sum_below F plan.choice.lost.count _ _ (λ b o. sum_mul F (k + p) (coefficient F i (at b)) (λ row. F.mul (W row b) (x row)) ∙ ap (F.mul (coefficient F i (at b))) (lost_at b o))
+        ∙ sum_below F plan.choice.lost.count _ _ (λ b o. ap (λ j. F.mul (coefficient F i j) (lost_part j)) (at_select b o))
         ∙ ap (λ c. sum_to F c (λ b. F.mul (coefficient F i (select k bad b)) (lost_part (select k bad b)))) planned.count
         ∙ sym (sum_selected F k bad (λ j. F.mul (coefficient F i j) (lost_part j)) (λ j h e. ap (F.mul (coefficient F i j)) (none j (not-false _ e)) ∙ mul-zero F _))
       where

@@ -1,3 +1,4 @@
 pub mod Stored
+pub mod Picked
 pub mod Plans
 pub mod Puts

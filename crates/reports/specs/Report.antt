@@ -5,16 +5,14 @@ use Rattle.images.specs.declared.ImageRefusal.{ImageRefusal}
 use Rattle.images.specs.Image.{refusal_number, checked}
 use Rattle.reports.specs.declared.InputRefusal.{InputRefusal}
 use Rattle.reports.specs.declared.InputRefusal.TheVariants.{TooLong, Image}
-use Rattle.reports.specs.declared.Report.{Report}
-use Rattle.reports.specs.declared.Report.TheVariants.{Refused, Tray}
 
 abbrev pub input_refusal_number : InputRefusal → ℕ
 input_refusal_number TooLong = 24
 input_refusal_number (Image r) = refusal_number r
 
-abbrev pub of_check : Result Head ImageRefusal → Report
-of_check (Ok h) = Tray h
-of_check (Err r) = Refused (Image r)
+abbrev pub of_check : Result Head ImageRefusal → Result Head InputRefusal
+of_check (Ok h) = Ok h
+of_check (Err r) = Err (Image r)
 
-abbrev pub reported : List ℕ → Report
-reported bytes = cond (nat_lt 65536 (length bytes)) (Refused TooLong) (of_check (checked bytes))
+abbrev pub reported : List ℕ → Result Head InputRefusal
+reported bytes = cond (nat_lt 65536 (length bytes)) (Err TooLong) (of_check (checked bytes))

@@ -8,6 +8,7 @@ use algebra::Field;
 use rows::symbol_at;
 use rules::{Refusal, Sizes};
 use shelves::Shelf;
+use std::array;
 use tray::Tray;
 
 // The numbers of a card's components, and zeros beyond them.
@@ -17,6 +18,7 @@ pub struct Card {
 }
 
 // The cards of a tray's rows, of so many components each, and zeros beyond the rows.
+// Fixed tables with counts: there is no heap below the program, and the largest tray has 68 rows of 8 components.
 #[derive(PartialEq, Eq, Debug, Drop)]
 pub struct Cards {
     pub rows: usize,
@@ -36,24 +38,21 @@ impl Cards {
     }
 }
 
-// What intake answered.
-#[derive(PartialEq, Eq, Debug, Drop)]
-pub enum Outcome {
-    Taken(Cards),
-    Refused(Refusal),
-}
-
 // The card that stands in a row below the tray's rows.
 fn read_card<S: Shelf>(shelf: &S, sizes: Sizes, row: usize) -> Card
 where
     S::Symbol: Field,
     ensures { row < sizes.data_rows + sizes.parity_rows → sizes.block_length ≤ 4096 → sizes.card_length ≤ 8 → result.numbers ≡ listed 8 (component_number S.Symbol.Field.algebra (seen S.Symbol.Field.meaning sizes (S.Shelf.contents shelf.now)) row) }
 {
-    let mut numbers = [0; 8];
-    for c in 0..sizes.card_length.min(8) {
-        numbers[c] = symbol_at(shelf, row, sizes.block_length.saturating_add(c)).number();
+    Card {
+        numbers: array::from_fn(|c| {
+            if c < sizes.card_length {
+                symbol_at(shelf, row, sizes.block_length.saturating_add(c)).number()
+            } else {
+                0
+            }
+        }),
     }
-    Card { numbers }
 }
 
 // The cards that stand on a shelf.
@@ -62,27 +61,27 @@ where
     S::Symbol: Field,
     ensures { sizes.data_rows ≤ 64 → sizes.parity_rows ≤ 4 → sizes.block_length ≤ 4096 → sizes.card_length ≤ 8 → result ≡ cards_of S.Symbol.Field.algebra (seen S.Symbol.Field.meaning sizes (S.Shelf.contents shelf.now)) }
 {
-    let rows = sizes.data_rows.saturating_add(sizes.parity_rows);
-    let mut cards = [Card { numbers: [0; 8] }; 68];
-    for row in 0..rows.min(68) {
-        cards[row] = read_card(shelf, sizes, row);
-    }
+    let rows = sizes.rows();
     Cards {
         rows,
         components: sizes.card_length,
-        cards,
+        cards: array::from_fn(|row| {
+            if row < rows {
+                read_card(shelf, sizes, row)
+            } else {
+                Card { numbers: [0; 8] }
+            }
+        }),
     }
 }
 
 // Takes in a new tray of these sizes over a shelf.
-pub fn take_in<S: Shelf + Drop>(shelf: S, sizes: Sizes) -> Outcome
+pub fn take_in<S: Shelf + Drop>(shelf: S, sizes: Sizes) -> Result<Cards, Refusal>
 where
     S::Symbol: Field,
     ensures { OutcomeOf S.Symbol.Field.algebra (seen S.Symbol.Field.meaning sizes (S.Shelf.contents shelf)) result }
 {
     let mut tray = Tray::over(shelf, sizes);
-    match tray.intake() {
-        Ok(()) => Outcome::Taken(read_cards(&tray.into_shelf(), sizes)),
-        Err(refusal) => Outcome::Refused(refusal),
-    }
+    tray.intake()?;
+    Ok(read_cards(&tray.into_shelf(), sizes))
 }

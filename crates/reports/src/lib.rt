@@ -1,7 +1,8 @@
 // What takein answers to its input, as a value and as text.
 #![tactic(auto)]
 
-ghost use Rattle.std.specs.Prelude.{◌≡◌, Some};
+ghost use Rattle.std.specs.Prelude.{◌≡◌, Some, Err};
+ghost use Rattle.reports.specs.declared.InputRefusal.TheVariants.{Image};
 ghost use Rattle.reports.specs.Report.{input_refusal_number, reported};
 ghost use Rattle.reports.specs.Text.{report_text};
 
@@ -9,7 +10,7 @@ mod cards;
 mod receipt;
 mod text;
 
-pub use cards::{Card, Cards, Outcome};
+pub use cards::{Card, Cards};
 use images::{Head, ImageRefusal};
 pub use receipt::{Receipt, receive};
 use std::fmt;
@@ -25,6 +26,7 @@ pub enum InputRefusal {
 }
 
 impl InputRefusal {
+    // One of what a refusal tells, so it is no `From`.
     pub fn number(self) -> u8
         ensures { result ≡ input_refusal_number self }
     {
@@ -35,44 +37,30 @@ impl InputRefusal {
     }
 }
 
-#[derive(Clone, Copy, PartialEq, Eq, Debug)]
-pub enum Report {
-    Refused(InputRefusal),
-    Tray(Head),
+impl From<ImageRefusal> for InputRefusal {
+    ghost from_gives = { λ refusal r. r ≡ Image refusal };
+
+    fn from(refusal: ImageRefusal) -> InputRefusal {
+        InputRefusal::Image(refusal)
+    }
 }
 
-// The report on an input.
-pub fn answer(bytes: &[u8]) -> Report
+impl fmt::Display for InputRefusal {
+    ghost output = { λ r. Some (report_text (Err r)) };
+
+    fn fmt<W: fmt::Write>(&self, f: &mut fmt::Formatter<W>) -> fmt::Result {
+        write!(f, "image refused {}", self.number())
+    }
+}
+
+// The report on an input: the head of an image, or why it is none.
+pub fn answer(bytes: &[u8]) -> Result<Head, InputRefusal>
     ensures { result ≡ reported bytes.now }
 {
     if bytes.len() > INPUT_LIMIT {
-        return Report::Refused(InputRefusal::TooLong);
+        return Err(InputRefusal::TooLong);
     }
-    match images::check(bytes) {
-        Ok(head) => Report::Tray(head),
-        Err(refusal) => Report::Refused(InputRefusal::Image(refusal)),
-    }
-}
-
-impl fmt::Display for Report {
-    ghost output = { λ r. Some (report_text r) };
-
-    fn fmt<W: fmt::Write>(&self, f: &mut fmt::Formatter<W>) -> fmt::Result {
-        match self {
-            Report::Refused(refusal) => {
-                let number = refusal.number();
-                write!(f, "image refused {number}")
-            }
-            Report::Tray(head) => {
-                let kind = head.field.number();
-                let k = head.data_rows;
-                let p = head.parity_rows;
-                let n = head.block_length;
-                let m = head.card_length;
-                write!(f, "tray {kind} {k} {p} {n} {m}")
-            }
-        }
-    }
+    Ok(images::check(bytes)?)
 }
 
 #[cfg(test)]

@@ -5,19 +5,19 @@ ghost use Rattle.reports.specs.Exact.{ReceiptExact};
 ghost use Rattle.reports.specs.Receipt.{head_sizes, ImageOutcome, Received, OnlyReceipt, NoImageKept};
 
 use crate::cards::take_in;
-use crate::{InputRefusal, Outcome, Report, answer};
+use crate::{Cards, InputRefusal, answer};
 use image_shelves::{ByteImage, CounterImage};
 use images::{FieldKind, Head};
-use rules::Sizes;
+use rules::{Refusal, Sizes};
 
-// The report on an input, and for an image what intake answered.
+// What an image says of its tray, and what intake answered: the cards that stand then, or why it was refused.
 #[derive(PartialEq, Eq, Debug, Drop)]
-pub enum Receipt {
-    NoImage(InputRefusal),
-    Tray(Head, Outcome),
+pub struct Receipt {
+    pub head: Head,
+    pub intake: Result<Cards, Refusal>,
 }
 
-// The sizes that an image's head says.
+// The sizes that an image's head says. Both types are of other crates, so it is no `From`.
 fn sizes_of(head: &Head) -> Sizes
     ensures { result ≡ head_sizes head.now }
 {
@@ -29,8 +29,8 @@ fn sizes_of(head: &Head) -> Sizes
     }
 }
 
-// Takes in a new tray of these sizes over the image shelf of a field.
-fn take_in_image(field: FieldKind, sizes: Sizes, bytes: &mut [u8]) -> Outcome
+// Takes in a new tray of these sizes over the image shelf of a field, which is known only from the image.
+fn take_in_image(field: FieldKind, sizes: Sizes, bytes: &mut [u8]) -> Result<Cards, Refusal>
     ensures { ImageOutcome field sizes bytes.old result }
 {
     match field {
@@ -40,17 +40,13 @@ fn take_in_image(field: FieldKind, sizes: Sizes, bytes: &mut [u8]) -> Outcome
 }
 
 // The receipt of an input. The tray is made over these bytes: where it is taken in, its cards are put there.
-pub fn receive(bytes: &mut [u8]) -> Receipt
+pub fn receive(bytes: &mut [u8]) -> Result<Receipt, InputRefusal>
     ensures value { Received bytes.old result }
     ensures only { OnlyReceipt bytes.old result }
     ensures exact { ReceiptExact bytes.old result }
     ensures kept { NoImageKept bytes.old bytes.new result }
 {
-    match answer(bytes) {
-        Report::Refused(refusal) => Receipt::NoImage(refusal),
-        Report::Tray(head) => {
-            let outcome = take_in_image(head.field, sizes_of(&head), bytes);
-            Receipt::Tray(head, outcome)
-        }
-    }
+    let head = answer(bytes)?;
+    let intake = take_in_image(head.field, sizes_of(&head), bytes);
+    Ok(Receipt { head, intake })
 }

@@ -1,16 +1,27 @@
 use super::*;
-use std::alloc::Global;
+use std::alloc::{AllocError, Global};
 use std::process::Abort;
 use std::test::Fail;
 
-// These bytes, with zeros up to the length.
+// These bytes, with zeros up to the length. The crate of images has the same for its tests: a test module cannot be used from another crate.
 fn input(heap: Global, start: &[u8], length: usize) -> Result<Vec<u8>, Fail> {
     let mut bytes = Vec::from_slice(heap, start)?;
     bytes.resize(length, 0)?;
     Ok(bytes)
 }
 
-// The text of the report on these bytes, with zeros up to the length.
+// The text of an answer, whichever it is.
+fn text_of<T: fmt::Display + Drop>(
+    heap: Global,
+    answer: Result<T, InputRefusal>,
+) -> Result<String, AllocError> {
+    match answer {
+        Ok(value) => value.to_string(heap),
+        Err(refusal) => refusal.to_string(heap),
+    }
+}
+
+// The text of the report on these bytes, with zeros up to the length. It lends them, and a receipt takes them by `&mut`: so there are two of these.
 fn says(
     rt: &impl Abort,
     heap: Global,
@@ -18,7 +29,7 @@ fn says(
     length: usize,
     text: &str,
 ) -> Result<(), Fail> {
-    let said = answer(&input(heap, start, length)?).to_string(heap)?;
+    let said = text_of(heap, answer(&input(heap, start, length)?))?;
     assert_eq!(rt; said.as_str(), text);
     Ok(())
 }
@@ -79,7 +90,7 @@ fn receipt_says(
     length: usize,
     text: &str,
 ) -> Result<(), Fail> {
-    let said = receive(&mut input(heap, start, length)?).to_string(heap)?;
+    let said = text_of(heap, receive(&mut input(heap, start, length)?))?;
     assert_eq!(rt; said.as_str(), text);
     Ok(())
 }

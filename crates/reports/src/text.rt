@@ -1,10 +1,10 @@
 // The receipt as text, without the last line's end.
 
 ghost use Rattle.std.specs.Fmt.{WritesOnOk};
-ghost use Rattle.std.specs.Prelude.{Some};
-ghost use Rattle.reports.specs.Text.{card_text, cards_text, outcome_text, receipt_text};
+ghost use Rattle.std.specs.Prelude.{Some, Ok};
+ghost use Rattle.reports.specs.Text.{card_text, cards_text, receipt_text};
 
-use crate::{Cards, Outcome, Receipt, Report};
+use crate::{Cards, Receipt};
 use std::fmt;
 
 // A row and its card.
@@ -27,6 +27,7 @@ impl fmt::Display for Cards {
     ghost output = { λ t. Some (cards_text t) };
 
     fn fmt<W: fmt::Write>(&self, f: &mut fmt::Formatter<W>) -> fmt::Result {
+        // By the row's number, which is printed and by which `numbers_of` looks up.
         for row in 0..self.rows.min(68) {
             writeln!(f)?;
             write_card(f, row, self.numbers_of(row))?;
@@ -35,32 +36,15 @@ impl fmt::Display for Cards {
     }
 }
 
-impl fmt::Display for Outcome {
-    ghost output = { λ o. Some (outcome_text o) };
-
-    fn fmt<W: fmt::Write>(&self, f: &mut fmt::Formatter<W>) -> fmt::Result {
-        match self {
-            Outcome::Taken(cards) => write!(f, "intake taken{cards}"),
-            Outcome::Refused(refusal) => write!(f, "intake refused {refusal}"),
-        }
-    }
-}
-
-// The report's line, and below it what intake answered.
+// The head's line, and below it what intake answered.
 impl fmt::Display for Receipt {
-    ghost output = { λ r. Some (receipt_text r) };
+    ghost output = { λ r. Some (receipt_text (Ok r)) };
 
     fn fmt<W: fmt::Write>(&self, f: &mut fmt::Formatter<W>) -> fmt::Result {
-        match self {
-            Receipt::NoImage(refusal) => {
-                let report = Report::Refused(*refusal);
-                write!(f, "{report}")
-            }
-            Receipt::Tray(head, outcome) => {
-                let report = Report::Tray(*head);
-                write!(f, "{report}")?;
-                write!(f, "\n{outcome}")
-            }
+        writeln!(f, "{}", self.head)?;
+        match &self.intake {
+            Ok(cards) => write!(f, "intake taken{cards}"),
+            Err(refusal) => write!(f, "intake refused {refusal}"),
         }
     }
 }

@@ -14,7 +14,7 @@ use Rattle.rules.proofs.Rows.{Fitting, fitting}
 use Rattle.rules.proofs.Tables.{component_same}
 use Rattle.rows.specs.Cards.{Holds, partly, below, CardPut, CardsPut}
 
-seen_put : {X A : Type 0} (meaning : X → A) (b : Bool) (x : X) (v : Cell X) → seen_cell meaning (cond b (symbol x) v) ≡ cond b (symbol (meaning x)) (seen_cell meaning v)
+pub seen_put : {X A : Type 0} (meaning : X → A) (b : Bool) (x : X) (v : Cell X) → seen_cell meaning (cond b (symbol x) v) ≡ cond b (symbol (meaning x)) (seen_cell meaning v)
 seen_put meaning true x v = refl
 seen_put meaning false x v = refl
 

@@ -1,5 +1,6 @@
 mod Horner
 mod Reading
 mod Combining
-mod Carding
+pub mod Carding
 mod Spans
+pub mod Making

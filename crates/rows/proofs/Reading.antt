@@ -1,5 +1,5 @@
 -- What a get says of a place.
-use Rattle.std.proofs.Common.{◌≡◌, ℕ, ◌+◌, Bool, true, false, refl, ap, arith, zero-add}
+use Rattle.std.proofs.Common.{◌≡◌, ℕ, ◌+◌, Bool, true, false, refl, ap, zero-add}
 use Rattle.rules.specs.Search.{lowest_pair}
 use Rattle.rules.proofs.Found.{lowest_pair_alike}
 use Rattle.algebra.proofs.Cases.{by_cases}
@@ -13,11 +13,11 @@ module _ {X : Type 0} (c : Contents X) (row place : ℕ) where
   read_symbol x e = by_cases (inside c row place) (λ i. of_cell (c.at row place) (rw i at e)) (λ o. let k : ◌≡◌ {A = Got X} (Symbol x) Outside = rw o at e in clashes k)
     where
       clashes : ◌≡◌ {A = Got X} (Symbol x) Outside → is_hole (c.at row place) ≡ false
-      clashes k = let z : ◌≡◌ {A = ℕ} 0 1 = cc in absurd (omega arith)
+      clashes k = absurd cc
 
       of_cell : (v : Cell X) → Symbol x ≡ got v → is_hole v ≡ false
       of_cell (symbol y) k = refl
-      of_cell hole k = let z : ◌≡◌ {A = ℕ} 0 1 = cc in absurd (omega arith)
+      of_cell hole k = absurd cc
 
   -- none was got, so there is one
   pub read_none : (g : Got X) → g ≡ get_answer c row place → ((x : X) → g ≡ Symbol x → ⊥) → is_hole (c.at row place) ≡ true

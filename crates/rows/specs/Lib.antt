@@ -1,2 +1,3 @@
 pub mod Weights
 pub mod Cards
+pub mod Shown

@@ -1,7 +1,8 @@
-// Code over a shelf: card components, parity combinations, the first place where something is wrong, audits and spans; and the putting of cards.
+// Code over a shelf: symbols, card components, parity combinations, holes and spans. And over a group, a shelf with its sizes: the first place that does
+// not fit, audits, and the putting of cards.
 #![tactic(auto)]
 
-ghost use Rattle.std.specs.Prelude.{◌≡◌, ℕ, ◌+◌, ◌^◌, ◌<◌, ◌≤◌, true, not, length, map};
+ghost use Rattle.std.specs.Prelude.{◌≡◌, ℕ, ◌+◌, ◌^◌, ◌<◌, ◌≤◌, true, not, length, map, slice_index};
 ghost use Rattle.std.specs.Option.{option_map};
 ghost use Rattle.algebra.specs.Theorems.{coefficient as coefficient_of};
 ghost use Rattle.rules.specs.Codes.{component, combination as combination_of, differ};
@@ -11,7 +12,8 @@ ghost use Rattle.rules.specs.Updates.{span};
 ghost use Rattle.rules.specs.Views.{element_at, seen};
 ghost use Rattle.shelves.specs.Contents.{is_hole};
 ghost use Rattle.rows.specs.Cards.{CardPut, CardsPut};
-ghost use Rattle.rows.specs.Weights.{Coefficients};
+ghost use Rattle.rows.specs.Shown.{shown};
+ghost use Rattle.rows.specs.Weights.{Coefficients, element_of};
 ghost use Rattle.rules.specs.declared.Sizes.{Sizes as SizesOf};
 
 use algebra::Field;
@@ -53,11 +55,26 @@ where
 pub fn element<F: Field>(number: usize) -> F
     ensures known { number < F.Field.algebra.size → F.Field.meaning result ≡ F.Field.algebra.element number }
     ensures unknown { F.Field.algebra.size ≤ number → F.Field.meaning result ≡ F.Field.algebra.zer }
+    ensures either { F.Field.meaning result ≡ element_of F.Field.algebra number }
 {
-    match F::numbered(number) {
-        Some(x) => x,
-        None => F::zero(),
-    }
+    F::numbered(number).unwrap_or(F::zero())
+}
+
+// The numbers of elements, as many as the count, and zeros from there on.
+pub fn numbers_of<F: Field, E: Fn(usize) -> F, const N: usize>(
+    count: usize,
+    element: E,
+) -> [usize; N]
+    requires room { N < 2 ^ 60 }
+    requires calls { (i : ℕ) → i < N → E.pre element i }
+    ensures numbers { (i : ℕ) → i < count → i < N → (x : F) × E.post element i x × (slice_index result i ≡ F.Field.algebra.number (F.Field.meaning x)) }
+    ensures zeros { (i : ℕ) → count ≤ i → i < N → slice_index result i ≡ 0 }
+{
+    std::array::from_fn(
+        |i|
+            requires { E.pre element i }
+        { if i < count { element(i).number() } else { 0 } },
+    )
 }
 
 // The coefficient of parity row i and data row j, where the field has their elements.
@@ -73,15 +90,11 @@ pub fn coefficient<F: Field>(i: usize, j: usize) -> F
 }
 
 // The numbers of the coefficients of parity row i, one for each data row: worked out once for a call.
+// Numbers, since Rattle has no array of a type parameter here, and always 64, with the count beside them, since nothing below the programs has a heap.
 pub fn coefficient_row<F: Field>(i: usize, data_rows: usize) -> [usize; 64]
     ensures { i < 4 → data_rows ≤ 64 → data_rows + 4 ≤ F.Field.algebra.size → Coefficients F.Field.algebra i data_rows result }
 {
-    let mut row = [0; 64];
-    for j in 0..data_rows.min(64) {
-        let weight: F = coefficient(i, j);
-        row[j] = weight.number();
-    }
-    row
+    numbers_of(data_rows, |j| coefficient::<F>(i, j))
 }
 
 // What a parity row with these coefficients holds at a place, from the data rows.
@@ -96,11 +109,20 @@ where
     ensures { (i : ℕ) → data_rows ≤ 64 → Coefficients S.Symbol.Field.algebra i data_rows coefficients.now → S.Symbol.Field.meaning result ≡ combination_of S.Symbol.Field.algebra data_rows (λ j. element_at S.Symbol.Field.algebra S.Symbol.Field.meaning (S.Shelf.contents shelf.now) j place) i }
 {
     let mut sum: S::Symbol = <S::Symbol>::zero();
-    for j in 0..data_rows.min(64) {
-        let weight: S::Symbol = element(coefficients[j]);
+    for (j, number) in coefficients[..data_rows.min(64)].iter().enumerate() {
+        let weight: S::Symbol = element(*number);
         sum = sum.sum(weight.product(symbol_at(shelf, j, place)));
     }
     sum
+}
+
+// Whether a place cannot be read.
+fn unreadable<S: Shelf>(shelf: &S, row: usize, place: usize) -> bool
+where
+    S::Symbol: Field,
+    ensures { result ≡ is_hole ((S.Shelf.contents shelf.now).at row place) }
+{
+    !matches!(shelf.get(row, place), Got::Symbol(_))
 }
 
 // The first place that cannot be read, by row and then by place.
@@ -113,6 +135,7 @@ where
 }
 
 // The same of a stretch of so many places that is alike in all rows. The place is counted from the start of the stretch.
+// By the project's rules two loops, left by a label, as in first_misfit_from.
 pub fn first_hole_from<S: Shelf>(
     shelf: &S,
     rows: usize,
@@ -126,47 +149,8 @@ where
     let mut found = None;
     'rows: for row in 0..rows {
         for offset in 0..places {
-            match shelf.get(row, start.saturating_add(offset)) {
-                Got::Symbol(_) => {}
-                _ => {
-                    found = Some((row, offset));
-                    break 'rows;
-                }
-            }
-        }
-    }
-    found
-}
-
-// The first place of the first parity row that does not fit, by parity row and then by place of the block. The parity row is named by its index i, not
-// by its row k + i.
-pub fn first_misfit<S: Shelf>(shelf: &S, sizes: Sizes) -> Option<(usize, usize)>
-where
-    S::Symbol: Field,
-    ensures { sizes.parity_rows ≤ 4 → sizes.data_rows ≤ 64 → sizes.data_rows + 4 ≤ S.Symbol.Field.algebra.size → result ≡ lowest_pair sizes.parity_rows sizes.block_length (misfit S.Symbol.Field.algebra (seen S.Symbol.Field.meaning sizes (S.Shelf.contents shelf.now))) }
-{
-    first_misfit_from(shelf, sizes, 0, sizes.block_length)
-}
-
-// The same of a stretch of places. The place is counted from the start of the stretch.
-pub fn first_misfit_from<S: Shelf>(
-    shelf: &S,
-    sizes: Sizes,
-    start: usize,
-    places: usize,
-) -> Option<(usize, usize)>
-where
-    S::Symbol: Field,
-    ensures { start + places < 2 ^ 64 → sizes.parity_rows ≤ 4 → sizes.data_rows ≤ 64 → sizes.data_rows + 4 ≤ S.Symbol.Field.algebra.size → result ≡ lowest_pair sizes.parity_rows places (λ i t. misfit S.Symbol.Field.algebra (seen S.Symbol.Field.meaning sizes (S.Shelf.contents shelf.now)) i (start + t)) }
-{
-    let mut found = None;
-    'rows: for i in 0..sizes.parity_rows {
-        let coefficients = coefficient_row::<S::Symbol>(i, sizes.data_rows);
-        for t in 0..places {
-            let place = start.saturating_add(t);
-            let fitting = combination(shelf, &coefficients, sizes.data_rows, place);
-            if !fitting.equals(symbol_at(shelf, sizes.data_rows.saturating_add(i), place)) {
-                found = Some((i, t));
+            if unreadable(shelf, row, start.saturating_add(offset)) {
+                found = Some((row, offset));
                 break 'rows;
             }
         }
@@ -180,59 +164,7 @@ where
     S::Symbol: Field,
     ensures { result ≡ lowest places (λ place. is_hole ((S.Shelf.contents shelf.now).at row place)) }
 {
-    for place in 0..places {
-        match shelf.get(row, place) {
-            Got::Symbol(_) => {}
-            _ => return Some(place),
-        }
-    }
-    None
-}
-
-// The lowest component of a row's card that differs from the fresh one.
-fn lowest_wrong_component<S: Shelf>(shelf: &S, sizes: Sizes, row: usize) -> Option<usize>
-where
-    S::Symbol: Field,
-    ensures { sizes.block_length + sizes.card_length < 2 ^ 64 → result ≡ lowest sizes.card_length (λ c. differ S.Symbol.Field.algebra (component S.Symbol.Field.algebra sizes.block_length (element_at S.Symbol.Field.algebra S.Symbol.Field.meaning (S.Shelf.contents shelf.now) row) c) (element_at S.Symbol.Field.algebra S.Symbol.Field.meaning (S.Shelf.contents shelf.now) row (sizes.block_length + c))) }
-{
-    for component in 0..sizes.card_length {
-        let fresh = fresh_component(shelf, row, sizes.block_length, component);
-        if !fresh.equals(symbol_at(shelf, row, sizes.block_length.saturating_add(component))) {
-            return Some(component);
-        }
-    }
-    None
-}
-
-// The verdict of one row: a hole, failing that a card that is not fresh, otherwise sound.
-pub fn audit<S: Shelf>(shelf: &S, sizes: Sizes, row: usize) -> Verdict
-where
-    S::Symbol: Field,
-    ensures { fits S.Symbol.Field.algebra (seen S.Symbol.Field.meaning sizes (S.Shelf.contents shelf.now)) ≡ true → result ≡ audited S.Symbol.Field.algebra (seen S.Symbol.Field.meaning sizes (S.Shelf.contents shelf.now)) row }
-{
-    let places = sizes.block_length.saturating_add(sizes.card_length);
-    if let Some(place) = lowest_hole(shelf, row, places) {
-        return Verdict::Hole(place);
-    }
-    match lowest_wrong_component(shelf, sizes, row) {
-        Some(component) => Verdict::Card(component),
-        None => Verdict::Sound,
-    }
-}
-
-// The lowest parity row that is not sound, by its index, with its verdict.
-pub fn first_unsound_parity<S: Shelf>(shelf: &S, sizes: Sizes) -> Option<(usize, Verdict)>
-where
-    S::Symbol: Field,
-    ensures { fits S.Symbol.Field.algebra (seen S.Symbol.Field.meaning sizes (S.Shelf.contents shelf.now)) ≡ true → result ≡ option_map (λ i. (i, audited S.Symbol.Field.algebra (seen S.Symbol.Field.meaning sizes (S.Shelf.contents shelf.now)) (sizes.data_rows + i))) (lowest sizes.parity_rows (λ i. not (sound S.Symbol.Field.algebra (seen S.Symbol.Field.meaning sizes (S.Shelf.contents shelf.now)) (sizes.data_rows + i)))) }
-{
-    for i in 0..sizes.parity_rows {
-        let verdict = audit(shelf, sizes, sizes.data_rows.saturating_add(i));
-        if !verdict.is_sound() {
-            return Some((i, verdict));
-        }
-    }
-    None
+    (0..places).find(|place| unreadable(shelf, row, *place))
 }
 
 // Copies symbols of a row into a buffer, from a start on.
@@ -246,25 +178,114 @@ where
     }
 }
 
-// Puts the card of one row, worked afresh.
-pub fn put_card<S: Shelf>(shelf: &mut S, sizes: Sizes, row: usize)
-where
-    S::Symbol: Field,
-    ensures { CardPut S.Symbol.Field.algebra S.Symbol.Field.meaning sizes row (S.Shelf.contents shelf.old) (S.Shelf.contents shelf.new) }
-{
-    for index in 0..sizes.card_length {
-        let component = fresh_component(shelf, row, sizes.block_length, index);
-        let _ = shelf.put(row, sizes.block_length.saturating_add(index), component);
-    }
+// The rows of a tray: a shelf, read by the tray's sizes.
+// That the sizes keep their limits is a premise of the clauses: a type that kept them would ask more of callers than the calls do.
+#[derive(Drop)]
+pub struct Group<S> {
+    pub shelf: S,
+    pub sizes: Sizes,
 }
 
-// Puts the card of every row, worked afresh.
-pub fn put_cards<S: Shelf>(shelf: &mut S, sizes: Sizes)
+impl<S: Shelf> Group<S>
 where
     S::Symbol: Field,
-    ensures { CardsPut S.Symbol.Field.algebra S.Symbol.Field.meaning sizes (S.Shelf.contents shelf.old) (S.Shelf.contents shelf.new) }
 {
-    for row in 0..sizes.data_rows.saturating_add(sizes.parity_rows) {
-        put_card(shelf, sizes, row);
+    // The first place of the first parity row that does not fit, by parity row and then by place of the block. The parity row is named by its index i, not
+    // by its row k + i.
+    pub fn first_misfit(&self) -> Option<(usize, usize)>
+        ensures { self.now.sizes.parity_rows ≤ 4 → self.now.sizes.data_rows ≤ 64 → self.now.sizes.data_rows + 4 ≤ S.Symbol.Field.algebra.size → result ≡ lowest_pair self.now.sizes.parity_rows self.now.sizes.block_length (misfit S.Symbol.Field.algebra (shown S.Shelf.contents S.Symbol.Field.meaning self.now)) }
+    {
+        self.first_misfit_from(0, self.sizes.block_length)
+    }
+
+    // The same of a stretch of places. The place is counted from the start of the stretch.
+    // By the project's rules two loops, left by a label.
+    pub fn first_misfit_from(&self, start: usize, places: usize) -> Option<(usize, usize)>
+        ensures { start + places < 2 ^ 64 → self.now.sizes.parity_rows ≤ 4 → self.now.sizes.data_rows ≤ 64 → self.now.sizes.data_rows + 4 ≤ S.Symbol.Field.algebra.size → result ≡ lowest_pair self.now.sizes.parity_rows places (λ i t. misfit S.Symbol.Field.algebra (shown S.Shelf.contents S.Symbol.Field.meaning self.now) i (start + t)) }
+    {
+        let mut found = None;
+        'rows: for i in 0..self.sizes.parity_rows {
+            let coefficients = coefficient_row::<S::Symbol>(i, self.sizes.data_rows);
+            for t in 0..places {
+                let place = start.saturating_add(t);
+                let fitting = combination(&self.shelf, &coefficients, self.sizes.data_rows, place);
+                if !fitting.equals(symbol_at(
+                    &self.shelf,
+                    self.sizes.data_rows.saturating_add(i),
+                    place,
+                )) {
+                    found = Some((i, t));
+                    break 'rows;
+                }
+            }
+        }
+        found
+    }
+
+    // Whether a component of a row's card differs from the fresh one.
+    fn wrong_component(&self, row: usize, c: usize) -> bool
+        ensures { self.now.sizes.block_length + c < 2 ^ 64 → result ≡ differ S.Symbol.Field.algebra (component S.Symbol.Field.algebra self.now.sizes.block_length (element_at S.Symbol.Field.algebra S.Symbol.Field.meaning (S.Shelf.contents self.now.shelf) row) c) (element_at S.Symbol.Field.algebra S.Symbol.Field.meaning (S.Shelf.contents self.now.shelf) row (self.now.sizes.block_length + c)) }
+    {
+        let fresh = fresh_component(&self.shelf, row, self.sizes.block_length, c);
+        !fresh.equals(symbol_at(&self.shelf, row, self.sizes.block_length.saturating_add(c)))
+    }
+
+    // The lowest component of a row's card that differs from the fresh one.
+    fn lowest_wrong_component(&self, row: usize) -> Option<usize>
+        ensures { self.now.sizes.block_length + self.now.sizes.card_length < 2 ^ 64 → result ≡ lowest self.now.sizes.card_length (λ c. differ S.Symbol.Field.algebra (component S.Symbol.Field.algebra self.now.sizes.block_length (element_at S.Symbol.Field.algebra S.Symbol.Field.meaning (S.Shelf.contents self.now.shelf) row) c) (element_at S.Symbol.Field.algebra S.Symbol.Field.meaning (S.Shelf.contents self.now.shelf) row (self.now.sizes.block_length + c))) }
+    {
+        (0..self.sizes.card_length).find(|c| self.wrong_component(row, *c))
+    }
+
+    // The verdict of one row: a hole, failing that a card that is not fresh, otherwise sound.
+    pub fn audit(&self, row: usize) -> Verdict
+        ensures { fits S.Symbol.Field.algebra (shown S.Shelf.contents S.Symbol.Field.meaning self.now) ≡ true → result ≡ audited S.Symbol.Field.algebra (shown S.Shelf.contents S.Symbol.Field.meaning self.now) row }
+    {
+        let places = self.sizes.places();
+        if let Some(place) = lowest_hole(&self.shelf, row, places) {
+            return Verdict::Hole(place);
+        }
+        match self.lowest_wrong_component(row) {
+            Some(component) => Verdict::Card(component),
+            None => Verdict::Sound,
+        }
+    }
+
+    // The lowest parity row that is not sound, by its index, with its verdict.
+    pub fn first_unsound_parity(&self) -> Option<(usize, Verdict)>
+        ensures { fits S.Symbol.Field.algebra (shown S.Shelf.contents S.Symbol.Field.meaning self.now) ≡ true → result ≡ option_map (λ i. (i, audited S.Symbol.Field.algebra (shown S.Shelf.contents S.Symbol.Field.meaning self.now) (self.now.sizes.data_rows + i))) (lowest self.now.sizes.parity_rows (λ i. not (sound S.Symbol.Field.algebra (shown S.Shelf.contents S.Symbol.Field.meaning self.now) (self.now.sizes.data_rows + i)))) }
+    {
+        for i in 0..self.sizes.parity_rows {
+            let verdict = self.audit(self.sizes.data_rows.saturating_add(i));
+            if !verdict.is_sound() {
+                return Some((i, verdict));
+            }
+        }
+        None
+    }
+
+    // Puts the card of one row, worked afresh.
+    pub fn put_card(&mut self, row: usize)
+        ensures sizes { self.new.sizes ≡ self.old.sizes }
+        ensures cards { CardPut S.Symbol.Field.algebra S.Symbol.Field.meaning self.old.sizes row (S.Shelf.contents self.old.shelf) (S.Shelf.contents self.new.shelf) }
+    {
+        for index in 0..self.sizes.card_length {
+            let component = fresh_component(&self.shelf, row, self.sizes.block_length, index);
+            let _ = self.shelf.put(
+                row,
+                self.sizes.block_length.saturating_add(index),
+                component,
+            );
+        }
+    }
+
+    // Puts the card of every row, worked afresh.
+    pub fn put_cards(&mut self)
+        ensures sizes { self.new.sizes ≡ self.old.sizes }
+        ensures cards { CardsPut S.Symbol.Field.algebra S.Symbol.Field.meaning self.old.sizes (S.Shelf.contents self.old.shelf) (S.Shelf.contents self.new.shelf) }
+    {
+        for row in 0..self.sizes.rows() {
+            self.put_card(row);
+        }
     }
 }

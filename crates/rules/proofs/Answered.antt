@@ -1,6 +1,7 @@
 -- Every state and call has an answer, and only one.
 use Rattle.std.proofs.Common.{◌≡◌, ◌+◌, cond, not, ◌&&◌, ltb, set, Some, None, Option, refl, ap}
 use mathlib.Core.Path.{fun_ext}
+use Rattle.std.proofs.lemmas.Bool.{true_from_ne_false}
 use Rattle.algebra.specs.Algebra.{Field}
 use Rattle.shelves.specs.Contents.{symbol}
 use Rattle.rules.specs.States.{State, k, p, n, m, cell, with_cells, audited, sound}
@@ -13,7 +14,6 @@ use Rattle.rules.specs.declared.Entry.TheVariants.{Read}
 use Rattle.rules.specs.declared.Refusal.{Refusal}
 use Rattle.rules.specs.declared.Round.{Round}
 use Rattle.rules.specs.declared.Round.TheVariants.{Resting, Walking, Over}
-use Rattle.rules.proofs.Found.{sure}
 use Rattle.rules.proofs.Mend.{few_of}
 use Rattle.rules.proofs.Tables.{table_same}
 use Rattle.rules.proofs.Working.{worked_exist, worked_unique}
@@ -34,7 +34,7 @@ module _ {X : Type 0} (F : Field X) (s : State X) where
       go Over e = absurd (none _ (not_walking (ap walking e)))
   accepts totals none = (_, _, did_totals)
   accepts first none = (_, _, did_first)
-  accepts mend none = (_, _, did_mend _ (worked_exist F s (sure _ (λ e. none _ (unfit mend e))) (few_of F s none)))
+  accepts mend none = (_, _, did_mend _ (worked_exist F s (true_from_ne_false _ (λ e. none _ (unfit mend e))) (few_of F s none)))
   accepts (audit row) none = (_, _, did_audit row)
   accepts (record_of row) none = (_, _, did_record row)
   accepts (read row start count) none = (_, _, did_read row start count)
@@ -64,7 +64,7 @@ module _ {X : Type 0} (F : Field X) (s : State X) where
   accepts_once none (did_record _) (did_record _) = (refl, refl)
   accepts_once none did_first did_first = (refl, refl)
   accepts_once none (did_mend blocks v) (did_mend blocks' w) =
-      let same = table_same F (k s) (n s) blocks blocks' (worked_unique F s (sure _ (λ e. none _ (unfit mend e))) (few_of F s none) blocks blocks' v w) in
+      let same = table_same F (k s) (n s) blocks blocks' (worked_unique F s (true_from_ne_false _ (λ e. none _ (unfit mend e))) (few_of F s none) blocks blocks' v w) in
       let cells : mended_cells F s blocks ≡ mended_cells F s blocks' = fun_ext λ row. fun_ext λ place. ap (λ x. cond (ltb row (k s + p s) && ltb place (n s + m s) && not (sound F s row)) (symbol x) (cell s row place)) (same row place) in
       (refl, ap (λ c. with_cells s c) cells)
 

@@ -13,10 +13,10 @@ use Rattle.algebra.proofs.Ring.{add-zero as add_𝟘}
 use Rattle.algebra.specs.Sum.{sum_to}
 use Rattle.algebra.proofs.Sums.{sum_below}
 
-counted_here : (n : ℕ) (test : ℕ → Bool) → test n ≡ true → counted (suc n) test ≡ counted n test + 1
+pub counted_here : (n : ℕ) (test : ℕ → Bool) → test n ≡ true → counted (suc n) test ≡ counted n test + 1
 counted_here n test e = rw e
 
-counted_skip : (n : ℕ) (test : ℕ → Bool) → test n ≡ false → counted (suc n) test ≡ counted n test
+pub counted_skip : (n : ℕ) (test : ℕ → Bool) → test n ≡ false → counted (suc n) test ≡ counted n test
 counted_skip n test e = rw e (omega arith)
 
 -- 1 where a test passes

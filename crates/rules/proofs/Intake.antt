@@ -1,6 +1,6 @@
 -- What intake accepts and leaves: every row equal to its twin.
 use Rattle.std.proofs.Common.{◌≡◌, ℕ, ◌+◌, ◌-◌, ◌<◌, false, sym, refl, ap, ◌∙◌, subst, inl, inr, arith}
-use Rattle.std.proofs.lemmas.Bool.{lt-ltb, le-leb, lt-leb, cases_lt, both_ways}
+use Rattle.std.proofs.lemmas.Bool.{true_from_ne_false, lt-ltb, le-leb, lt-leb, cases_lt, both_ways}
 use Rattle.algebra.specs.Algebra.{Field}
 use Rattle.shelves.specs.Contents.{Contents, symbol, is_hole}
 use Rattle.rules.specs.Codes.{table, table_block}
@@ -12,7 +12,7 @@ use Rattle.rules.specs.Twins.{EqualRow}
 use Rattle.rules.specs.Exact.{Acceptable, TakenIn, IntakeExact}
 use Rattle.rules.specs.declared.Refusal.{Refusal}
 use Rattle.rules.specs.declared.Sizes.{Sizes}
-use Rattle.rules.proofs.Found.{sure, nothing, lowest_pair_none, lowest_pair_some}
+use Rattle.rules.proofs.Found.{nothing, lowest_pair_none, lowest_pair_some}
 use Rattle.rules.proofs.Kept.{Kept}
 use Rattle.rules.proofs.Rows.{readable, read_back, cell_inside}
 use Rattle.rules.proofs.Tables.{differ_same, same_differ, component_same, block_data, block_parity, table_place, table_card}
@@ -21,7 +21,7 @@ module _ {X : Type 0} (F : Field X) where
   -- where no line holds, the tray can be delivered
   deliverable : (s : State X) → ((q : Refusal) → Line F s intake q → ⊥) → Acceptable F s
   deliverable s none = record {
-    fitting = sure _ (λ e. none _ (unfit intake e));
+    fitting = true_from_ne_false _ (λ e. none _ (unfit intake e));
     readable = λ row place h l.
         readable _ (lowest_pair_none _ _ (λ r t. is_hole (cell s r t)) (nothing _ λ x e. none _ (block_hole x.0 x.1 e)) row place h l);
     agreeing = λ i place h l. sym (differ_same F _ _ (lowest_pair_none _ _ (misfit F s) (nothing _ λ x e. none _ (misfit_intake x.0 x.1 e)) i place h l));
@@ -74,8 +74,8 @@ module _ {X : Type 0} (F : Field X) where
 
   pub intake_exact : IntakeExact F
   intake_exact sizes contents _ _ (rejected r line first) = (
-    (λ e. let z : ◌≡◌ {A = ℕ} 0 1 = cc in absurd (omega arith), λ d. absurd (no_refusal (new sizes contents) refl d r line)),
-    λ e. let z : ◌≡◌ {A = ℕ} 0 1 = cc in absurd (omega arith),
+    (λ e. absurd cc, λ d. absurd (no_refusal (new sizes contents) refl d r line)),
+    λ e. absurd cc,
   )
   intake_exact sizes contents _ _ (accepted none did_intake) =
       let d = deliverable (new sizes contents) none in

@@ -1,7 +1,7 @@
 -- Every call keeps what a run keeps, so the tray is faithful to its twin.
 use Rattle.std.proofs.Common.{◌≡◌, ℕ, ◌+◌, ◌<◌, true, not, ◌↔◌, List, refl, ap, inl, inr, arith}
 use mathlib.Core.Bool.{false≢true}
-use Rattle.std.proofs.lemmas.Bool.{both_ways, not-true, not-false, cases_lt}
+use Rattle.std.proofs.lemmas.Bool.{true_from_ne_false, both_ways, not-true, not-false, cases_lt}
 use Rattle.algebra.specs.Algebra.{Field}
 use Rattle.rules.specs.States.{State, k, p, sound, audited}
 use Rattle.rules.specs.Calls.{is_sound}
@@ -12,7 +12,7 @@ use Rattle.rules.specs.Twins.{overwritten, EqualRow, Takes, Follows, takes, stan
 use Rattle.rules.specs.declared.Refusal.{Refusal}
 use Rattle.rules.specs.declared.Verdict.{Verdict}
 use Rattle.rules.specs.declared.Verdict.TheVariants.{Sound, Hole, Card}
-use Rattle.rules.proofs.Found.{sure, nothing, lowest_none, lowest_some}
+use Rattle.rules.proofs.Found.{nothing, lowest_none, lowest_some}
 use Rattle.rules.proofs.Intake.{intake_kept}
 use Rattle.rules.proofs.Kept.{Kept, sound_equal, unsound_struck}
 use Rattle.rules.proofs.Mend.{mend_equal, mend_kept}
@@ -40,10 +40,10 @@ module _ {X : Type 0} (F : Field X) where
       pub taken_if_none : ((q : Refusal) → Line F s (write row start xs) q → ⊥) → Takes F blocks s row start xs
       taken_if_none none =
           let of_data : row < k s = elim (cases_lt row (k s)) [ inl l ↦ l | inr more ↦ absurd (none _ (no_write row start xs more)) ] in
-          let is : sound F s row ≡ true = sure _ (λ e. none _ (bad_write row start xs e)) in
+          let is : sound F s row ≡ true = true_from_ne_false _ (λ e. none _ (bad_write row start xs e)) in
           record {
             of_data = of_data;
-            spans = sure _ (λ e. none _ (long_write row start xs e));
+            spans = true_from_ne_false _ (λ e. none _ (long_write row start xs e));
             row_clear = λ struck. both_ways _ ((unsound_struck F blocks s kept row (omega arith)).1 struck) is;
             parity_clear = λ i l struck.
                 both_ways _ ((unsound_struck F blocks s kept (k s + i) (omega arith)).1 struck)

@@ -1,5 +1,5 @@
 -- For code: what loops find is what the definitions name, a walk beyond the rows finds a hole, and a read keeps its buffer's length.
-use Rattle.std.proofs.Common.{◌≡◌, ℕ, zero, suc, ◌+◌, ◌<◌, ◌≤◌, Bool, true, false, List, length, Some, None, Option, refl, ap, inl, inr, arith}
+use Rattle.std.proofs.Common.{◌≡◌, ℕ, zero, suc, ◌+◌, ◌<◌, ◌≤◌, Bool, true, false, List, length, Some, None, Option, MatchOption, sym, refl, ap, inl, inr, arith}
 use Rattle.std.proofs.lemmas.Bool.{both_ways, cases_order, and_left, le-ltb}
 use Rattle.algebra.specs.Algebra.{Field}
 use Rattle.shelves.specs.Contents.{is_hole}
@@ -9,7 +9,7 @@ use Rattle.rules.specs.Calls.{read, Answer, buffer_after}
 use Rattle.rules.specs.Updates.{span}
 use Rattle.rules.specs.Promises.{Promise, rejected, accepted, did_read}
 use Rattle.rules.specs.declared.Verdict.TheVariants.{Hole}
-use Rattle.rules.proofs.Found.{Found, FoundPair, found_lowest, found_lowest_pair}
+use Rattle.rules.proofs.Found.{Found, FoundPair, found_lowest, found_lowest_pair, none_lowest}
 use Rattle.rules.proofs.Rows.{fitting}
 
 -- a loop left at i
@@ -24,6 +24,15 @@ lowest_at bound test i h e none = go (lowest bound test) (found_lowest bound tes
           | inr (inl less) ↦ absurd (both_ways _ (none j less) f.2)
           | inr (inr more) ↦ absurd (both_ways _ (f.3 i (omega arith) more) e)
         ]
+
+-- what a search of a range finds
+pub lowest_found : (bound : ℕ) (test : ℕ → Bool) (found : Option ℕ)
+    → MatchOption found ((i : ℕ) → 0 ≤ i → i < bound → i < bound → test i ≡ false)
+    (λ i. (0 ≤ i) × (i < bound) × (i < bound → test i ≡ true) × ((j : ℕ) → 0 ≤ j → j < i → j < bound → test j ≡ false))
+    → found ≡ lowest bound test
+lowest_found bound test None none = sym (none_lowest bound test (λ i l. none i (omega arith) l l))
+lowest_found bound test (Some i) first =
+    sym (lowest_at bound test i first.1 (first.2 first.1) (λ j l. first.3 j (omega arith) l (omega arith)))
 
 -- two nested loops left at a row and a place, and two that ran to their end
 module _ (rows places : ℕ) (test : ℕ → ℕ → Bool) where

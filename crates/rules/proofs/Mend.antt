@@ -1,6 +1,6 @@
 -- What mend leaves: exactly the symbols that fit, and after a run the twin's.
 use Rattle.std.proofs.Common.{◌≡◌, ℕ, ◌+◌, ◌-◌, ◌<◌, ◌≤◌, true, false, ◌⊎◌, ◌↔◌, sym, refl, ap, ◌∙◌, subst, inl, inr, arith}
-use Rattle.std.proofs.lemmas.Bool.{cases_Bool, cases_lt, and_parts, and_from, not-true, not_from_true, not_from_false, both_ways, lt-ltb}
+use Rattle.std.proofs.lemmas.Bool.{true_from_ne_false, cases_Bool, cases_lt, and_parts, and_from, not-true, not_from_true, not_from_false, both_ways, lt-ltb}
 use Rattle.algebra.specs.Algebra.{Field}
 use Rattle.shelves.specs.Contents.{Contents, symbol}
 use Rattle.rules.specs.Codes.{combination, differ, table, table_block}
@@ -12,7 +12,7 @@ use Rattle.rules.specs.Twins.{EqualRow, AtMostStruck}
 use Rattle.rules.specs.Exact.{Whole, ParityFits, Mends, MendExact}
 use Rattle.rules.specs.declared.Refusal.{Refusal}
 use Rattle.rules.proofs.Counted.{counted_none, counted_among, passing, length_passing, in_passing}
-use Rattle.rules.proofs.Found.{sure, nothing, lowest_pair_none, lowest_pair_some}
+use Rattle.rules.proofs.Found.{nothing, lowest_pair_none, lowest_pair_some}
 use Rattle.rules.proofs.Kept.{Kept, sound_equal, unsound_struck}
 use Rattle.rules.proofs.Rows.{cell_inside, read_back, sound_means, equal_sound, whole_same}
 use Rattle.rules.proofs.Tables.{differ_same, same_differ, component_same, combination_same, component_combination, table_same, block_data, block_parity, table_place, table_card}
@@ -32,7 +32,7 @@ module _ {X : Type 0} (F : Field X) (s : State X) where
 
   module _ (none : (q : Refusal) → Line F s mend q → ⊥) (blocks : ℕ → ℕ → X) (worked : Worked F s blocks) where
     fit : fits F s ≡ true
-    fit = sure _ (λ e. none _ (unfit mend e))
+    fit = true_from_ne_false _ (λ e. none _ (unfit mend e))
 
     abbrev after : State X
     after = with_cells s (mended_cells F s blocks)

@@ -33,9 +33,9 @@ walks_at (Walking row) = Some row
 walks_at Over = None
 
 pub walks_at_row : (r : Round) (row : ℕ) → walks_at r ≡ Some row → r ≡ Walking row
-walks_at_row Resting row e = let z : ◌≡◌ {A = ℕ} 0 1 = cc in absurd (omega arith)
+walks_at_row Resting row e = absurd cc
 walks_at_row (Walking at) row e = cc
-walks_at_row Over row e = let z : ◌≡◌ {A = ℕ} 0 1 = cc in absurd (omega arith)
+walks_at_row Over row e = absurd cc
 
 module _ {X : Type 0} (F : Field X) (s : State X) where
   -- what is found is a line of this rank that holds
@@ -73,7 +73,7 @@ module _ {X : Type 0} (F : Field X) (s : State X) where
   settled (check b l None holds rest) = wider (first_of rest) (settled rest)
     where
       past : {q : Refusal} → Listed q _ (check b l None holds rest) → Listed q _ rest
-      past (here e) = let z : ◌≡◌ {A = ℕ} 0 1 = cc in absurd (omega arith)
+      past (here e) = absurd cc
       past (later h) = h
 
       wider : (o : Option Refusal) → Settled rest o → Settled (check b l None holds rest) o
@@ -88,10 +88,10 @@ module _ {X : Type 0} (F : Field X) (s : State X) where
   -- how a check shows its line
   pub guarded : {c : Call X} (t : Bool) (r : Refusal) → (t ≡ true → Line F s c r) → Holds c (rank r) (guard t r)
   guarded {c} true r line q e = let same : r ≡ q = cc in (ap rank (sym same), subst (Line F s c) same (line refl))
-  guarded false r line q e = let z : ◌≡◌ {A = ℕ} 0 1 = cc in absurd (omega arith)
+  guarded false r line q e = absurd cc
 
   pub named : {c : Call X} {b : ℕ} {A : Type 0} (name : A → Refusal) (o : Option A) → ((x : A) → rank (name x) ≡ b) → ((x : A) → o ≡ Some x → Line F s c (name x)) → Holds c b (naming name o)
-  named name None ranked line q e = let z : ◌≡◌ {A = ℕ} 0 1 = cc in absurd (omega arith)
+  named name None ranked line q e = absurd cc
   named {c} name (Some x) ranked line q e = let same : name x ≡ q = cc in (ap rank (sym same) ∙ ranked x, subst (Line F s c) same (line x refl))
 
   -- the rows that a write looks at: its own, and then the parity rows
@@ -113,7 +113,7 @@ module _ {X : Type 0} (F : Field X) (s : State X) where
 
   pub mend_misfit_holds : (t : Bool) (e : (fits F s && leb (unsound_count F s) (p s)) ≡ t) → Holds mend 9 (mend_misfit t e)
   unfolding mend_misfit
-  mend_misfit_holds false e q f = let z : ◌≡◌ {A = ℕ} 0 1 = cc in absurd (omega arith)
+  mend_misfit_holds false e q f = absurd cc
   mend_misfit_holds true e q f =
       let both = and_parts _ _ e in
       named _ _ (λ x. refl) (λ x g. misfit_mend _ x.0 x.1 (worked_exist F s both.0 (leb-true _ _ both.1)) g) q f

@@ -1,6 +1,6 @@
 -- How a round goes from row to row.
 use Rattle.std.proofs.Common.{◌≡◌, ℕ, ◌+◌, ◌<◌, ◌≤◌, true, cond, not, ltb, length, get_or, set, refl, ap, ◌∙◌, subst, ap₂, inl, inr, arith}
-use Rattle.std.proofs.lemmas.Bool.{both_ways, cases_eq, lt-ltb, le-ltb}
+use Rattle.std.proofs.lemmas.Bool.{true_from_ne_false, both_ways, cases_eq, lt-ltb, le-ltb}
 use Rattle.std.proofs.lemmas.List.{get_or-set_same, get_or-set_other, length-set}
 use Rattle.algebra.specs.Algebra.{Field}
 use Rattle.rules.specs.Calls.{begin, step, totals, Answer, done, counts}
@@ -15,7 +15,6 @@ use Rattle.rules.specs.declared.Round.{Round}
 use Rattle.rules.specs.declared.Round.TheVariants.{Walking, Over}
 use Rattle.rules.specs.declared.Sheet.{Sheet}
 use Rattle.rules.proofs.Counted.{counted_same}
-use Rattle.rules.proofs.Found.{sure}
 use Rattle.rules.proofs.Rows.{fitting}
 
 module _ {X : Type 0} (F : Field X) (s : State X) where
@@ -41,7 +40,7 @@ module _ {X : Type 0} (F : Field X) (s : State X) where
     taken : s.taken_in ≡ true
 
   begun_fits : {i : ℕ} {t : State X} → Walked F s i t → Begun
-  begun_fits (begun t (accepted none did_begin)) = record { fit = sure _ (λ e. none _ (unfit begin e)); taken = sure _ (λ e. none _ (early begin refl e)) }
+  begun_fits (begun t (accepted none did_begin)) = record { fit = true_from_ne_false _ (λ e. none _ (unfit begin e)); taken = true_from_ne_false _ (λ e. none _ (early begin refl e)) }
   begun_fits (stepped i t walked _ _ _) = begun_fits walked
 
   module _ (b : Begun) where

@@ -113,7 +113,7 @@ module _ {X : Type 0} (F : Field X) (s : State X) where
     struck_unsound fit struck e = go struck ((sound_means row).0 e)
       where
         go : StruckRow F blocks s row → Whole F (n s) (m s) (cell s row) → ⊥
-        go (holed place h c) w = let (x, q) = w.symbols place h in let z : ◌≡◌ {A = ℕ} 0 1 = cc in omega arith
+        go (holed place h c) w = let (x, q) = w.symbols place h in cc
         go (card_off same place low high other) w =
             let e : n s + (place - n s) ≡ place = omega arith in
             let q = w.card (place - n s) (omega arith) in

@@ -1,6 +1,6 @@
 -- What an accepted write leaves.
 use Rattle.std.proofs.Common.{◌≡◌, ℕ, ◌+◌, ◌-◌, ◌<◌, ◌≤◌, true, false, cond, not, ◌&&◌, eqb, ltb, leb, ◌≢◌, ◌⊎◌, List, [], ◌∷◌, length, get_or, map, sym, refl, ap, ◌∙◌, inl, inr, arith}
-use Rattle.std.proofs.lemmas.Bool.{cases_lt, cases_eq, le-ltb, lt-ltb, not-false}
+use Rattle.std.proofs.lemmas.Bool.{true_from_ne_false, cases_lt, cases_eq, le-ltb, lt-ltb, not-false}
 use Rattle.std.proofs.lemmas.Bool.Decides.{nat_tests}
 use Rattle.algebra.specs.Algebra.{Field, power, minus}
 use Rattle.algebra.specs.Theorems.{coefficient}
@@ -16,7 +16,7 @@ use Rattle.rules.specs.Twins.{overwritten}
 use Rattle.rules.specs.Updates.{allowed, touched, grow, own_change, weight, written_one, written}
 use Rattle.rules.specs.Writes.{miss, Wrote, WriteExact}
 use Rattle.rules.specs.declared.Refusal.{Refusal}
-use Rattle.rules.proofs.Found.{sure, nothing, lowest_none}
+use Rattle.rules.proofs.Found.{nothing, lowest_none}
 use Rattle.rules.proofs.Moves.{Touched}
 use Rattle.rules.proofs.Rows.{cell_inside, read_back, sound_means}
 use Rattle.rules.proofs.Tables.{sum_shift, component_same, combination_same}
@@ -147,20 +147,20 @@ module _ {X : Type 0} (F : Field X) (s : State X) (row : ℕ) (h : row < k s) wh
 
 module _ {X : Type 0} (F : Field X) (s : State X) (row start : ℕ) (xs : List X) (none : (q : Refusal) → Line F s (write row start xs) q → ⊥) where
   fit : fits F s ≡ true
-  fit = sure _ (λ e. none _ (unfit _ e))
+  fit = true_from_ne_false _ (λ e. none _ (unfit _ e))
 
   of_data : row < k s
   of_data = elim (cases_lt row (k s)) [ inl less ↦ less | inr more ↦ absurd (none _ (no_write row start xs more)) ]
 
   sound_row : sound F s row ≡ true
-  sound_row = sure _ (λ e. none _ (bad_write row start xs e))
+  sound_row = true_from_ne_false _ (λ e. none _ (bad_write row start xs e))
 
   sound_parity : (i : ℕ) → i < p s → sound F s (k s + i) ≡ true
   sound_parity i hi =
       not-false _ (lowest_none (p s) (λ h. not (sound F s (k s + h))) (nothing _ λ j e. none _ (bad_parity row start xs j sound_row e)) i hi)
 
   room : start + length xs ≤ n s
-  room = let is : allowed s start (length xs) ≡ true = sure _ (λ e. none _ (long_write row start xs e)) in grind (arith, nat_tests, is)
+  room = let is : allowed s start (length xs) ≡ true = true_from_ne_false _ (λ e. none _ (long_write row start xs e)) in grind (arith, nat_tests, is)
 
   clean : Clean F s row of_data (cell s)
   clean r touches hr = (sound_means F s r).0 (elim touches [

@@ -1,7 +1,7 @@
 // The types that a tray's answers are made of. What they mean, and what every call promises, stands in specs/.
 #![tactic(auto)]
 
-ghost use Rattle.std.specs.Prelude.{◌≡◌, ◌+◌, ◌^◌, ◌<◌, not, slice_set, Some};
+ghost use Rattle.std.specs.Prelude.{◌≡◌, ◌+◌, ◌-◌, ◌^◌, min, ◌<◌, not, slice_set, Some};
 ghost use Rattle.rules.specs.Calls.{own_number, returned, layer as layer_of, is_sound};
 ghost use Rattle.rules.specs.Search.{counted, lowest};
 ghost use Rattle.rules.specs.Sheets.{entered, tallied, turn_answer, turned};
@@ -32,6 +32,20 @@ impl Sizes {
             && (1..=4096).contains(&self.block_length)
             && (2..=8).contains(&self.card_length)
     }
+
+    // How many rows a tray of these sizes has; the largest number, where the sum overflows.
+    pub fn rows(&self) -> usize
+        ensures { result ≡ min (self.now.data_rows + self.now.parity_rows) (2 ^ 64 - 1) }
+    {
+        self.data_rows.saturating_add(self.parity_rows)
+    }
+
+    // How many places a row has, block and card; the largest number, where the sum overflows.
+    pub fn places(&self) -> usize
+        ensures { result ≡ min (self.now.block_length + self.now.card_length) (2 ^ 64 - 1) }
+    {
+        self.block_length.saturating_add(self.card_length)
+    }
 }
 
 // What an audit finds in one row.
@@ -48,14 +62,11 @@ impl Verdict {
     pub fn is_sound(self) -> bool
         ensures { result ≡ is_sound self }
     {
-        match self {
-            Verdict::Sound => true,
-            Verdict::Hole(_) | Verdict::Card(_) => false,
-        }
+        matches!(self, Verdict::Sound)
     }
 }
 
-// What the sheet says of one row.
+// What the sheet says of one row: by the project's rules an enum of its own, and not an Option.
 #[derive(Clone, Copy, PartialEq, Eq, Debug)]
 pub enum Entry {
     Unread,
@@ -76,7 +87,7 @@ impl Record {
     }
 }
 
-// The results of a scrub pass: one record for each row that a tray could have.
+// The results of a scrub pass: one record for each row that a tray could have; of a fixed size, by the project's rules.
 #[derive(Drop)]
 pub struct Sheet {
     pub records: [Record; 68],
@@ -97,17 +108,16 @@ impl Sheet {
     pub fn entry(&self, row: usize) -> Entry
         ensures { result ≡ entry_at self.now row }
     {
-        if row < self.records.len() {
-            self.records[row].entry
-        } else {
-            Entry::Unread
-        }
+        self.records
+            .get(row)
+            .map_or(Entry::Unread, |record| record.entry)
     }
 
     // Enters a verdict in the record of a row, where there is one.
     pub fn enter(&mut self, row: usize, verdict: Verdict)
         ensures { self.new.records ≡ slice_set self.old.records row (entered verdict) }
     {
+        // By an index: after a write through an array's `get_mut` no proof knows the other elements.
         if row < self.records.len() {
             self.records[row].enter(verdict);
         }
@@ -118,6 +128,7 @@ impl Sheet {
         ensures sound { result.0 ≡ counted rows (λ r. entry_sound (entry_at self.now r)) }
         ensures others { result.1 ≡ counted rows (λ r. not (entry_sound (entry_at self.now r))) }
     {
+        // A loop: that the counts do not overflow is its invariant, and a fold's closure has none.
         let mut totals = (0, 0);
         for row in 0..rows {
             totals = tally(totals, self.entry(row));
@@ -129,18 +140,14 @@ impl Sheet {
     pub fn first_unsound(&self, rows: usize) -> Option<usize>
         ensures { result ≡ lowest rows (λ r. entry_bad (entry_at self.now r)) }
     {
-        for row in 0..rows {
-            if let Entry::Read(verdict) = self.entry(row) {
-                if !verdict.is_sound() {
-                    return Some(row);
-                }
-            }
-        }
-        None
+        (0..rows).find(|row| match self.entry(*row) {
+            Entry::Read(verdict) => !verdict.is_sound(),
+            Entry::Unread => false,
+        })
     }
 }
 
-// One entry more, in the sound ones or in the others.
+// One entry more, in the sound ones or in the others. By the project's rules the counts go in and out as a pair.
 fn tally(totals: (usize, usize), entry: Entry) -> (usize, usize)
     requires { totals.0 + totals.1 + 1 < 2 ^ 64 }
     ensures { result ≡ tallied totals entry }
@@ -170,6 +177,7 @@ pub enum Action {
 
 impl Round {
     // Takes an action on a tray of so many rows. It answers the row at which the round begins, the row that a step audits, or how many rows were walked.
+    // By the project's rules an action is a value, which the round matches together with its own state, and the round replaces itself.
     pub fn act(&mut self, action: Action, rows: usize) -> Result<usize, Refusal>
         ensures answer { result ≡ turn_answer self.old action rows }
         ensures after { self.new ≡ turned self.old action rows }
@@ -233,6 +241,8 @@ pub enum Layer {
 }
 
 impl Refusal {
+    // The number that C callers and reports have for it.
+    // One of what a refusal tells, beside its layer and what it carries, so it is no `From`.
     pub fn number(self) -> u8
         ensures { result ≡ own_number self }
     {

@@ -1,10 +1,9 @@
 -- What a shelf means: its sizes, and at each place a symbol or a hole.
-use Rattle.std.specs.Prelude.{◌≡◌, ℕ, Bool, true, false, cond, ◌&&◌, ◌==◌, nat_lt}
+use Rattle.std.specs.Prelude.{◌≡◌, ℕ, Bool, true, false, cond, ◌&&◌, ◌==◌, nat_lt, Ok, Err, Result}
 use Rattle.std.proofs.Common.{ap}
 use Rattle.shelves.specs.declared.Got.{Got}
 use Rattle.shelves.specs.declared.Got.TheVariants.{Symbol, Hole, Outside}
-use Rattle.shelves.specs.declared.Placed.{Placed}
-use Rattle.shelves.specs.declared.Placed.TheVariants.{Done, Outside as Beyond}
+use Rattle.shelves.specs.declared.Outside.{Outside as Beyond}
 
 -- what stands at one place: a symbol, or a hole, which is what the drive cannot read
 pub data Cell (A : Type 0) : Type 0 where
@@ -49,9 +48,13 @@ got hole = Hole
 abbrev pub get_answer : {A : Type 0} → Contents A → ℕ → ℕ → Got A
 get_answer s row place = cond (inside s row place) (got (s.at row place)) Outside
 
-abbrev pub put_answer : {A : Type 0} → Contents A → ℕ → ℕ → Placed
-put_answer s row place = cond (inside s row place) Done Beyond
+abbrev pub put_answer : {A : Type 0} → Contents A → ℕ → ℕ → Result (Unit {0}) Beyond
+put_answer s row place = cond (inside s row place) (Ok tt) (Err (record {}))
+
+-- the same contents with a cell at one place; beyond the sizes the same
+abbrev pub with_cell : {A : Type 0} → Contents A → ℕ → ℕ → Cell A → Contents A
+with_cell s row place cell = filled s.rows s.places (λ r c. cond (r == row && c == place) cell (s.at r c))
 
 -- a put changes its place alone, and beyond the sizes nothing
 abbrev pub after_put : {A : Type 0} → Contents A → ℕ → ℕ → A → Contents A
-after_put s row place x = filled s.rows s.places (λ r c. cond (r == row && c == place) (symbol x) (s.at r c))
+after_put s row place x = with_cell s row place (symbol x)

@@ -1,5 +1,5 @@
 -- The contents of a shelf over lent symbols and marks, row after row.
-use Rattle.std.specs.Prelude.{ℕ, zero, suc, ◌+◌, ◌*◌, Bool, cond, ◌&&◌, List, [], ◌∷◌, length, Some, None, Option, ◌==◌, slice_index, slice_set}
+use Rattle.std.specs.Prelude.{ℕ, zero, suc, ◌+◌, ◌*◌, ◌<◌, Bool, cond, ◌&&◌, List, [], ◌∷◌, length, Some, None, Option, ◌==◌, slice_index, slice_set}
 use Rattle.shelves.specs.Contents.{Cell, symbol, hole, Contents, filled, nothing, within}
 
 -- what stands at an index of the symbols
@@ -32,3 +32,8 @@ spot_in rows places symbols marks row place =
 abbrev pub put_in : {A : Type 0} → Option ℕ → A → List A → List A
 put_in None x xs = xs
 put_in (Some i) x xs = slice_set xs i x
+
+-- an index that was found lies within both pieces of memory
+abbrev pub SpotWithin : {A : Type 0} → List A → List ℕ → Option ℕ → Type 0
+SpotWithin symbols marks None = Unit {0}
+SpotWithin symbols marks (Some i) = (i < length symbols) × (i < length marks)

@@ -5,8 +5,10 @@ ghost use Rattle.std.specs.Prelude.{◌≡◌};
 ghost use Rattle.shelves.specs.Contents.{Contents, get_answer, put_answer, after_put};
 
 mod array;
+mod memory;
 
 pub use array::ArrayShelf;
+pub use memory::Grid;
 
 // What get answers: the symbol at a place, a hole where it cannot be read, or that the place is beyond the sizes.
 #[derive(Clone, Copy, PartialEq, Eq, Debug)]
@@ -16,12 +18,9 @@ pub enum Got<T> {
     Outside,
 }
 
-// What put answers.
+// Why put refuses: the place is beyond the sizes.
 #[derive(Clone, Copy, PartialEq, Eq, Debug)]
-pub enum Placed {
-    Done,
-    Outside,
-}
+pub struct Outside;
 
 // A drive, by its contents: a number of rows, a number of places in each, and at each place a symbol or a hole.
 // Nothing but a put in range changes the contents, and that changes its own place alone.
@@ -39,7 +38,7 @@ pub trait Shelf {
     fn get(&self, row: usize, place: usize) -> Got<Self::Symbol>
         ensures { result ≡ get_answer (contents self.now) row place };
 
-    fn put(&mut self, row: usize, place: usize, symbol: Self::Symbol) -> Placed
+    fn put(&mut self, row: usize, place: usize, symbol: Self::Symbol) -> Result<(), Outside>
         ensures answer { result ≡ put_answer (contents self.old) row place }
         ensures after { contents self.new ≡ after_put (contents self.old) row place symbol };
 }

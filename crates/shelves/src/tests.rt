@@ -27,10 +27,10 @@ fn puts_change_their_place_alone(rt: HostRuntime) {
     let mut symbols = SYMBOLS;
     let mut marks = MARKS;
     let mut shelf = ArrayShelf::over(2, 3, &mut symbols, &mut marks);
-    assert_eq!(rt; shelf.put(1, 0, 99), Placed::Done);
-    assert_eq!(rt; shelf.put(1, 2, 98), Placed::Done);
-    assert_eq!(rt; shelf.put(2, 0, 97), Placed::Outside);
-    assert_eq!(rt; shelf.put(0, 3, 96), Placed::Outside);
+    assert_eq!(rt; shelf.put(1, 0, 99), Ok(()));
+    assert_eq!(rt; shelf.put(1, 2, 98), Ok(()));
+    assert_eq!(rt; shelf.put(2, 0, 97), Err(Outside));
+    assert_eq!(rt; shelf.put(0, 3, 96), Err(Outside));
     assert_eq!(rt; shelf.get(1, 0), Got::Symbol(99));
     assert_eq!(rt; shelf.get(1, 1), Got::Hole);
     assert_eq!(rt; shelf.get(1, 2), Got::Symbol(98));

@@ -9,7 +9,11 @@ fn run(rt: &HostRuntime) -> anyhow::Result<()> {
     rt.stdin()
         .take(reports::INPUT_LIMIT as u64 + 1)
         .read_to_end(&mut input)?;
-    rt.println(reports::receive(&mut input))?;
+    // A refused input is an answer too, and no failure of the program.
+    match reports::receive(&mut input) {
+        Ok(receipt) => rt.println(receipt)?,
+        Err(refusal) => rt.println(refusal)?,
+    }
     Ok(())
 }
 

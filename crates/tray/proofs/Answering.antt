@@ -1,5 +1,5 @@
 -- From what a call tested to its promise.
-use Rattle.std.proofs.Common.{◌≡◌, ℕ, ◌+◌, ◌^◌, ◌<◌, ◌≤◌, true, false, not, List, length, Some, None, Option, Ok, Err, sym, refl, ap, ◌∙◌, subst, subst₂, ap₂, arith, le-leb, set}
+use Rattle.std.proofs.Common.{◌≡◌, ℕ, ◌+◌, ◌-◌, ◌^◌, min, ◌<◌, ◌≤◌, true, false, not, List, length, Some, None, Option, Ok, Err, sym, refl, ap, ◌∙◌, subst, subst₂, ap₂, arith, le-leb, set}
 use borrow.Author.Tests.{lt-leb}
 use Rattle.std.specs.Option.{option_map}
 use Rattle.std.specs.Prelude.{map}
@@ -41,7 +41,7 @@ places_holes meaning held rows rows' places at o all found =
 
 -- what a search found, of an option that also says something of it
 pub found_with : {B : Type 0} (f : ℕ → B) (o : Option ℕ) (i : ℕ) (v : B) → option_map {U = ℕ × B} (λ i. (i, f i)) o ≡ Some (i, v) → (o ≡ Some i) × (v ≡ f i)
-found_with f None i v e = let z : ◌≡◌ {A = ℕ} 0 1 = cc in absurd (omega arith)
+found_with f None i v e = absurd cc
 found_with {B} f (Some j) i v e =
     let pair : ◌≡◌ {A = ℕ × B} (j, f j) (i, v) = cc in
     let same : j ≡ i = ap (λ x. x.0) pair in
@@ -49,7 +49,7 @@ found_with {B} f (Some j) i v e =
 
 pub none_with : {B : Type 0} (f : ℕ → B) (o : Option ℕ) → option_map {U = ℕ × B} (λ i. (i, f i)) o ≡ None → o ≡ None
 none_with f None e = refl
-none_with f (Some j) e = let z : ◌≡◌ {A = ℕ} 0 1 = cc in absurd (omega arith)
+none_with f (Some j) e = absurd cc
 
 -- a sound row of a tray that fits has no hole
 module _ {X A : Type 0} (F : Field A) (meaning : X → A) (sizes : Sizes) (held : Contents X) (fit : fits F (seen meaning sizes held) ≡ true) where
@@ -72,33 +72,33 @@ module _ {X A : Type 0} (F : Field A) (meaning : X → A) (sizes : Sizes) (held 
 -- what an action of a round met, by its answer
 began : (r : Round) (rows x : ℕ) → turn_answer r Begin rows ≡ Ok x → (walks_at r ≡ None) × (turned r Begin rows ≡ Walking 0)
 began Resting rows x e = (refl, refl)
-began (Walking row) rows x e = let z : ◌≡◌ {A = ℕ} 0 1 = cc in absurd (omega arith)
+began (Walking row) rows x e = absurd cc
 began Over rows x e = (refl, refl)
 
 not_begun : (r : Round) (rows : ℕ) (q : Refusal) → turn_answer r Begin rows ≡ Err q → (row : ℕ) × (r ≡ Walking row) × (q ≡ StillWalking row) × (turned r Begin rows ≡ r)
-not_begun Resting rows q e = let z : ◌≡◌ {A = ℕ} 0 1 = cc in absurd (omega arith)
+not_begun Resting rows q e = absurd cc
 not_begun (Walking row) rows q e = (row, refl, cc, refl)
-not_begun Over rows q e = let z : ◌≡◌ {A = ℕ} 0 1 = cc in absurd (omega arith)
+not_begun Over rows q e = absurd cc
 
 stepped : (r : Round) (rows x : ℕ) → turn_answer r Step rows ≡ Ok x → (r ≡ Walking x) × (turned r Step rows ≡ next_row x rows)
-stepped Resting rows x e = let z : ◌≡◌ {A = ℕ} 0 1 = cc in absurd (omega arith)
+stepped Resting rows x e = absurd cc
 stepped (Walking row) rows x e = let same : row ≡ x = cc in (ap Walking same, ap (λ v. next_row v rows) same)
-stepped Over rows x e = let z : ◌≡◌ {A = ℕ} 0 1 = cc in absurd (omega arith)
+stepped Over rows x e = absurd cc
 
 not_stepped : (r : Round) (rows : ℕ) (q : Refusal) → turn_answer r Step rows ≡ Err q → (walking r ≡ false) × (q ≡ WrongPhase) × (turned r Step rows ≡ r)
 not_stepped Resting rows q e = (refl, cc, refl)
-not_stepped (Walking row) rows q e = let z : ◌≡◌ {A = ℕ} 0 1 = cc in absurd (omega arith)
+not_stepped (Walking row) rows q e = absurd cc
 not_stepped Over rows q e = (refl, cc, refl)
 
 totalled : (r : Round) (rows x : ℕ) → turn_answer r Totals rows ≡ Ok x → (over r ≡ true) × (x ≡ rows) × (turned r Totals rows ≡ r)
-totalled Resting rows x e = let z : ◌≡◌ {A = ℕ} 0 1 = cc in absurd (omega arith)
-totalled (Walking row) rows x e = let z : ◌≡◌ {A = ℕ} 0 1 = cc in absurd (omega arith)
+totalled Resting rows x e = absurd cc
+totalled (Walking row) rows x e = absurd cc
 totalled Over rows x e = (refl, cc, refl)
 
 not_totalled : (r : Round) (rows : ℕ) (q : Refusal) → turn_answer r Totals rows ≡ Err q → (over r ≡ false) × (q ≡ WrongPhase) × (turned r Totals rows ≡ r)
 not_totalled Resting rows q e = (refl, cc, refl)
 not_totalled (Walking row) rows q e = (refl, cc, refl)
-not_totalled Over rows q e = let z : ◌≡◌ {A = ℕ} 0 1 = cc in absurd (omega arith)
+not_totalled Over rows q e = absurd cc
 
 module _ {A : Type 0} (F : Field A) (s : State A) where
   -- the tray with another round and another sheet
@@ -145,8 +145,8 @@ module _ {A : Type 0} (F : Field A) (s : State A) where
   mapped_span meaning start xs = ap (allowed s start) (length-map xs meaning)
 
   -- the number of rows, where no sum of the sizes overflows
-  pub row_count : fits F s ≡ true → {v : ℕ} → (k s + p s < 2 ^ 64 → v ≡ k s + p s) → v ≡ k s + p s
-  row_count sized is = let f = fitting F s sized in is (omega arith)
+  pub row_count : fits F s ≡ true → {v : ℕ} → v ≡ min (k s + p s) (2 ^ 64 - 1) → v ≡ k s + p s
+  row_count sized is = let f = fitting F s sized in omega arith
 
   -- calls on a tray that is taken in
   module _ (e : fits F s ≡ true) (t : s.taken_in ≡ true) where

@@ -1,17 +1,15 @@
 -- From what mend found to its promise.
-use Rattle.std.proofs.Common.{◌≡◌, ℕ, ◌+◌, ◌<◌, ◌≤◌, Bool, true, not, Some, None, Option, sym, ap, ◌∙◌, subst, subst₂, arith}
+use Rattle.std.proofs.Common.{◌≡◌, ℕ, ◌+◌, ◌<◌, ◌≤◌, true, Some, None, Option, sym, ◌∙◌, subst, subst₂, arith}
 use borrow.Author.Tests.{both_ways}
 use Rattle.algebra.specs.Algebra.{Field}
 use Rattle.shelves.specs.Contents.{Contents}
 use Rattle.rules.specs.Calls.{mend, mended, refused, rank}
 use Rattle.rules.specs.Promises.{Line, unfit, early, misfit_mend, too_many, Promise, rejected, accepted, did_mend}
-use Rattle.rules.specs.Search.{counted, lowest_pair}
-use Rattle.rules.specs.States.{State, new, k, p, n, fits, sound, unsound_count, with_cells}
+use Rattle.rules.specs.Search.{lowest_pair}
+use Rattle.rules.specs.States.{State, new, k, p, n, fits, unsound_count, with_cells}
 use Rattle.rules.specs.Updates.{Worked, worked_misfit, mended_cells}
 use Rattle.rules.specs.declared.Refusal.{Refusal}
 use Rattle.rules.specs.declared.Refusal.TheVariants.{Misfit, TooManyUnsound}
-use Rattle.rules.proofs.Counted.{counted_same}
-use Rattle.rules.proofs.Working.{enough}
 use Rattle.tray.proofs.Answering.{with_contents}
 
 module _ {A : Type 0} (F : Field A) (s : State A) (e : fits F s ≡ true) (t : s.taken_in ≡ true) where
@@ -47,7 +45,7 @@ module _ {A : Type 0} (F : Field A) (s : State A) (e : fits F s ≡ true) (t : s
       no_line q (too_many many) = omega arith
       no_line q (misfit_mend blocks i place worked h) =
           let clash : ◌≡◌ {A = Option (ℕ × ℕ)} None (Some (i, place)) = sym none ∙ is blocks worked ∙ h in
-          let z : ◌≡◌ {A = ℕ} 0 1 = cc in omega arith
+          cc
 
       pub mend_done : (blocks : ℕ → ℕ → A) → Worked F s blocks → (count : ℕ) → count ≡ unsound_count F s → (held : Contents A)
           → held ≡ (with_cells s (mended_cells F s blocks)).contents → Promise F s mend (mended count) (with_contents F s held)
@@ -61,11 +59,3 @@ worked_new F s blocks w = record { keeps = w.keeps; solves = w.solves }
 
 pub new_worked : {A : Type 0} (F : Field A) (s : State A) (blocks : ℕ → ℕ → A) → Worked F (new s.sizes s.contents) blocks → Worked F s blocks
 new_worked F s blocks w = record { keeps = w.keeps; solves = w.solves }
-
--- the rows that mend gathered give it enough sound parity rows
-pub enough_gathered : {A : Type 0} (F : Field A) (s : State A) (flags : ℕ → Bool) → ((row : ℕ) → row < k s + p s → flags row ≡ sound F s row) → unsound_count F s ≤ p s
-    → counted (k s) (λ j. not (flags j)) ≤ counted (p s) (λ i. flags (k s + i))
-enough_gathered F s flags same few =
-    let a = counted_same (k s) (λ j. not (flags j)) (λ j. not (sound F s j)) (λ j l. ap not (same j (omega arith))) in
-    let b = counted_same (p s) (λ i. flags (k s + i)) (λ i. sound F s (k s + i)) (λ i l. same (k s + i) (omega arith)) in
-    omega (arith, a, b, enough F s few)

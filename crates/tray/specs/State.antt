@@ -12,8 +12,8 @@ use Rattle.tray.specs.declared.Tray.{Tray}
 -- the sizes, the shelf's symbols as elements, whether it is taken in, the round and the sheet
 abbrev pub state : {S X A : Type 0} → (S → Contents X) → (X → A) → Tray S X → State A
 state contents meaning t = record {
-  sizes = t.sizes;
-  contents = seen_contents meaning (contents t.shelf);
+  sizes = t.group.sizes;
+  contents = seen_contents meaning (contents t.group.shelf);
   taken_in = t.taken_in;
   round = t.round;
   sheet = t.sheet;

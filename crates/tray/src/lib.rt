@@ -20,13 +20,14 @@ ghost use Rattle.rules.specs.Writes.{WriteExact};
 ghost use Rattle.tray.specs.State.{state, on_contents, answer_of, answer_by, ExchangedAs, read_answer, counts_of, Ready};
 
 use algebra::Field;
+use mending::Plan;
+use rows::Group;
 use rules::{Action, Entry, Refusal, Round, Sheet, Sizes, Verdict};
 use shelves::Shelf;
 
 #[derive(Drop)]
 pub struct Tray<S: Shelf> {
-    shelf: S,
-    sizes: Sizes,
+    group: Group<S>,
     taken_in: bool,
     round: Round,
     sheet: Sheet,
@@ -39,11 +40,10 @@ where
     // A new tray: not taken in, its round rests, its sheet is unread.
     pub fn over(shelf: S, sizes: Sizes) -> Tray<S>
         ensures state { state S.Shelf.contents S.Symbol.Field.meaning result ≡ seen S.Symbol.Field.meaning sizes (S.Shelf.contents shelf) }
-        ensures shelf { result.shelf ≡ shelf }
+        ensures shelf { result.group.shelf ≡ shelf }
     {
         Tray {
-            shelf,
-            sizes,
+            group: Group { shelf, sizes },
             taken_in: false,
             round: Round::Resting,
             sheet: Sheet::unread(),
@@ -52,38 +52,30 @@ where
 
     // Gives the shelf back, as the calls left it.
     pub fn into_shelf(self) -> S
-        ensures { result ≡ self.shelf }
+        ensures { result ≡ self.group.shelf }
     {
-        let Tray {
-            shelf,
-            sizes: _,
-            taken_in: _,
-            round: _,
-            sheet: _,
-        } = self;
-        shelf
+        self.group.shelf
     }
 
     // Exchanges the shelf for another and gives the old one back: what damage between calls amounts to, where the sizes stay. All else is as it was.
     pub fn replace_shelf(&mut self, shelf: S) -> S
         ensures state { state S.Shelf.contents S.Symbol.Field.meaning self.new ≡ on_contents (state S.Shelf.contents S.Symbol.Field.meaning self.old) (seen_contents S.Symbol.Field.meaning (S.Shelf.contents shelf)) }
         ensures damage { ExchangedAs (state S.Shelf.contents S.Symbol.Field.meaning self.old) (seen_contents S.Symbol.Field.meaning (S.Shelf.contents shelf)) (state S.Shelf.contents S.Symbol.Field.meaning self.new) }
-        ensures shelf { self.new.shelf ≡ shelf }
-        ensures old { result ≡ self.old.shelf }
+        ensures shelf { self.new.group.shelf ≡ shelf }
+        ensures old { result ≡ self.old.group.shelf }
     {
-        std::mem::replace(&mut self.shelf, shelf)
+        std::mem::replace(&mut self.group.shelf, shelf)
     }
 
     fn fits(&self) -> bool
         ensures { result ≡ fits S.Symbol.Field.algebra (state S.Shelf.contents S.Symbol.Field.meaning self.now) }
     {
-        if !self.sizes.in_limits() {
-            return false;
-        }
-        self.sizes.data_rows + 4 <= <S::Symbol>::order()
-            && self.sizes.block_length <= <S::Symbol>::reach()
-            && self.shelf.rows() == self.sizes.data_rows + self.sizes.parity_rows
-            && self.shelf.places() == self.sizes.block_length + self.sizes.card_length
+        let Group { shelf, sizes } = &self.group;
+        sizes.in_limits()
+            && sizes.data_rows + 4 <= <S::Symbol>::order()
+            && sizes.block_length <= <S::Symbol>::reach()
+            && shelf.rows() == sizes.rows()
+            && shelf.places() == sizes.places()
     }
 
     // Whether the tray fits its shelf and its field.
@@ -99,6 +91,7 @@ where
     }
 
     // Takes the tray in: looks for holes in blocks and then for parity rows that do not fit, and puts every card.
+    #[tactic(auto, using(rules::proofs::Intake::intake_exact))]
     pub fn intake(&mut self) -> Result<(), Refusal>
         ensures promise { Promise S.Symbol.Field.algebra (state S.Shelf.contents S.Symbol.Field.meaning self.old) intake_call (answer_of result) (state S.Shelf.contents S.Symbol.Field.meaning self.new) }
         ensures exact { IntakeExact S.Symbol.Field.algebra }
@@ -109,23 +102,20 @@ where
         if self.taken_in {
             return Err(Refusal::TakenInAlready);
         }
-        let rows = self.rows();
-        if let Some((row, place)) = rows::first_hole(&self.shelf, rows, self.sizes.block_length) {
+        let rows = self.group.sizes.rows();
+        if let Some((row, place)) = rows::first_hole(
+            &self.group.shelf,
+            rows,
+            self.group.sizes.block_length,
+        ) {
             return Err(Refusal::Unreadable(row, place));
         }
-        if let Some((i, place)) = rows::first_misfit(&self.shelf, self.sizes) {
-            return Err(Refusal::Misfit(self.sizes.data_rows.saturating_add(i), place));
+        if let Some((i, place)) = self.group.first_misfit() {
+            return Err(Refusal::Misfit(self.group.sizes.data_rows.saturating_add(i), place));
         }
-        rows::put_cards(&mut self.shelf, self.sizes);
+        self.group.put_cards();
         self.taken_in = true;
         Ok(())
-    }
-
-    // How many rows a tray that fits has.
-    fn rows(&self) -> usize
-        ensures { self.now.sizes.data_rows + self.now.sizes.parity_rows < 2 ^ 64 → result ≡ self.now.sizes.data_rows + self.now.sizes.parity_rows }
-    {
-        self.sizes.data_rows.saturating_add(self.sizes.parity_rows)
     }
 
     // The checks that all calls but fit and intake share.
@@ -145,10 +135,11 @@ where
     fn allows(&self, start: usize, count: usize) -> bool
         ensures { result ≡ allowed (state S.Shelf.contents S.Symbol.Field.meaning self.now) start count }
     {
-        start <= self.sizes.block_length && count <= self.sizes.block_length - start
+        start <= self.group.sizes.block_length && count <= self.group.sizes.block_length - start
     }
 
     // The verdict of one row.
+    #[tactic(auto, using(rules::proofs::Audits::audit_exact, rules::proofs::Audits::no_longer_sound))]
     pub fn audit(&self, row: usize) -> Result<Verdict, Refusal>
         ensures promise { Promise S.Symbol.Field.algebra (state S.Shelf.contents S.Symbol.Field.meaning self.now) (audit_call row) (answer_by judged result) (state S.Shelf.contents S.Symbol.Field.meaning self.now) }
         ensures exact { AuditExact S.Symbol.Field.algebra }
@@ -157,10 +148,10 @@ where
         ensures after_runs { AuditFaithful S.Symbol.Field.algebra (state S.Shelf.contents S.Symbol.Field.meaning self.now) row (answer_by judged result) }
     {
         self.ready()?;
-        if row >= self.rows() {
+        if row >= self.group.sizes.rows() {
             return Err(Refusal::NoSuchRow(row));
         }
-        Ok(rows::audit(&self.shelf, self.sizes, row))
+        Ok(self.group.audit(row))
     }
 
     // Copies a span of a sound row's block into the buffer, as many symbols as the buffer has.
@@ -169,65 +160,65 @@ where
         ensures refused { OnErr result (buffer.new ≡ buffer.old) }
     {
         self.ready()?;
-        if row >= self.rows() {
+        if row >= self.group.sizes.rows() {
             return Err(Refusal::NoSuchRow(row));
         }
         if !self.allows(start, buffer.len()) {
             return Err(Refusal::BadSpan(start));
         }
-        let verdict = rows::audit(&self.shelf, self.sizes, row);
+        let verdict = self.group.audit(row);
         if !verdict.is_sound() {
             return Err(Refusal::Unsound(row, verdict));
         }
-        rows::copy_span(&self.shelf, row, start, buffer);
+        rows::copy_span(&self.group.shelf, row, start, buffer);
         Ok(())
     }
 
     // Writes symbols into a data row's block, and moves the parity rows and all cards touched by the change.
+    #[tactic(auto, using(rules::proofs::Writes::write_exact))]
     pub fn write(&mut self, row: usize, start: usize, symbols: &[S::Symbol]) -> Result<(), Refusal>
         ensures promise { Promise S.Symbol.Field.algebra (state S.Shelf.contents S.Symbol.Field.meaning self.old) (write_call row start (map S.Symbol.Field.meaning symbols.now)) (answer_of result) (state S.Shelf.contents S.Symbol.Field.meaning self.new) }
         ensures exact { WriteExact S.Symbol.Field.algebra }
     {
         self.ready()?;
-        if row >= self.sizes.data_rows {
+        if row >= self.group.sizes.data_rows {
             return Err(Refusal::NoSuchRow(row));
         }
         if !self.allows(start, symbols.len()) {
             return Err(Refusal::BadSpan(start));
         }
-        let verdict = rows::audit(&self.shelf, self.sizes, row);
+        let verdict = self.group.audit(row);
         if !verdict.is_sound() {
             return Err(Refusal::Unsound(row, verdict));
         }
-        if let Some((i, found)) = rows::first_unsound_parity(&self.shelf, self.sizes) {
-            return Err(Refusal::Unsound(self.sizes.data_rows.saturating_add(i), found));
+        if let Some((i, found)) = self.group.first_unsound_parity() {
+            return Err(Refusal::Unsound(self.group.sizes.data_rows.saturating_add(i), found));
         }
-        writes::write_symbols(&mut self.shelf, self.sizes, row, start, symbols);
+        writes::write_symbols(&mut self.group, row, start, symbols);
         Ok(())
     }
 
     // Checks from cards alone that parity fits.
+    #[tactic(auto, using(rules::proofs::Crosses::cross_accepts))]
     pub fn cross(&self) -> Result<(), Refusal>
         ensures promise { Promise S.Symbol.Field.algebra (state S.Shelf.contents S.Symbol.Field.meaning self.now) cross_call (answer_of result) (state S.Shelf.contents S.Symbol.Field.meaning self.now) }
         ensures accepts { CrossAccepts S.Symbol.Field.algebra }
     {
         self.ready()?;
-        let start = self.sizes.block_length;
+        let start = self.group.sizes.block_length;
         if let Some((row, component)) = rows::first_hole_from(
-            &self.shelf,
-            self.rows(),
+            &self.group.shelf,
+            self.group.sizes.rows(),
             start,
-            self.sizes.card_length,
+            self.group.sizes.card_length,
         ) {
             return Err(Refusal::Unreadable(row, start.saturating_add(component)));
         }
-        if let Some((i, component)) = rows::first_misfit_from(
-            &self.shelf,
-            self.sizes,
-            start,
-            self.sizes.card_length,
-        ) {
-            let row = self.sizes.data_rows.saturating_add(i);
+        if let Some((i, component)) = self
+            .group
+            .first_misfit_from(start, self.group.sizes.card_length)
+        {
+            let row = self.group.sizes.data_rows.saturating_add(i);
             return Err(Refusal::Misfit(row, start.saturating_add(component)));
         }
         Ok(())
@@ -238,7 +229,7 @@ where
         ensures { Promise S.Symbol.Field.algebra (state S.Shelf.contents S.Symbol.Field.meaning self.old) begin_call (answer_of result) (state S.Shelf.contents S.Symbol.Field.meaning self.new) }
     {
         self.ready()?;
-        let rows = self.rows();
+        let rows = self.group.sizes.rows();
         self.round.act(Action::Begin, rows)?;
         self.sheet = Sheet::unread();
         Ok(())
@@ -249,20 +240,21 @@ where
         ensures { Promise S.Symbol.Field.algebra (state S.Shelf.contents S.Symbol.Field.meaning self.old) step_call (answer_by judged result) (state S.Shelf.contents S.Symbol.Field.meaning self.new) }
     {
         self.ready()?;
-        let rows = self.rows();
+        let rows = self.group.sizes.rows();
         let row = self.round.act(Action::Step, rows)?;
-        let verdict = rows::audit(&self.shelf, self.sizes, row);
+        let verdict = self.group.audit(row);
         self.sheet.enter(row, verdict);
         Ok(verdict)
     }
 
     // How many rows the round found sound, and how many it did not.
+    #[tactic(auto, using(rules::proofs::Rounds::round_exact))]
     pub fn totals(&mut self) -> Result<(usize, usize), Refusal>
         ensures promise { Promise S.Symbol.Field.algebra (state S.Shelf.contents S.Symbol.Field.meaning self.old) totals_call (answer_by counts_of result) (state S.Shelf.contents S.Symbol.Field.meaning self.new) }
         ensures round { RoundExact S.Symbol.Field.algebra }
     {
         self.ready()?;
-        let rows = self.rows();
+        let rows = self.group.sizes.rows();
         let walked = self.round.act(Action::Totals, rows)?;
         Ok(self.sheet.totals(walked))
     }
@@ -272,7 +264,7 @@ where
         ensures { Promise S.Symbol.Field.algebra (state S.Shelf.contents S.Symbol.Field.meaning self.now) (record_call row) (answer_by entry_is result) (state S.Shelf.contents S.Symbol.Field.meaning self.now) }
     {
         self.ready()?;
-        if row >= self.rows() {
+        if row >= self.group.sizes.rows() {
             return Err(Refusal::NoSuchRow(row));
         }
         Ok(self.sheet.entry(row))
@@ -283,10 +275,11 @@ where
         ensures { Promise S.Symbol.Field.algebra (state S.Shelf.contents S.Symbol.Field.meaning self.now) first_call (answer_by lowest_is result) (state S.Shelf.contents S.Symbol.Field.meaning self.now) }
     {
         self.ready()?;
-        Ok(self.sheet.first_unsound(self.rows()))
+        Ok(self.sheet.first_unsound(self.group.sizes.rows()))
     }
 
     // Puts back every row that is not sound, block and card, from the rows that are. It audits all rows afresh and never looks at the sheet.
+    #[tactic(auto, using(rules::proofs::Answered::answered))]
     pub fn mend(&mut self) -> Result<usize, Refusal>
         ensures promise { Promise S.Symbol.Field.algebra (state S.Shelf.contents S.Symbol.Field.meaning self.old) mend_call (answer_by mended result) (state S.Shelf.contents S.Symbol.Field.meaning self.new) }
         ensures exact { MendExact S.Symbol.Field.algebra }
@@ -295,20 +288,16 @@ where
         ensures after_runs { MendFaithful S.Symbol.Field.algebra (state S.Shelf.contents S.Symbol.Field.meaning self.old) (state S.Shelf.contents S.Symbol.Field.meaning self.new) }
     {
         self.ready()?;
-        let damage = mending::gather(&self.shelf, self.sizes);
-        if damage.count > self.sizes.parity_rows {
+        let damage = mending::gather(&self.group);
+        if damage.count > self.group.sizes.parity_rows {
             return Err(Refusal::TooManyUnsound(damage.count));
         }
-        let plan = mending::make_plan::<S::Symbol>(self.sizes, &damage);
-        if let Some((i, place)) = mending::first_worked_misfit(
-            &self.shelf,
-            self.sizes,
-            &damage,
-            &plan,
-        ) {
-            return Err(Refusal::Misfit(self.sizes.data_rows.saturating_add(i), place));
+        let plan = Plan::new::<S::Symbol>(self.group.sizes, damage);
+        if let Some((i, place)) = mending::first_worked_misfit(&self.group, &plan) {
+            let row = self.group.sizes.data_rows.saturating_add(i);
+            return Err(Refusal::Misfit(row, place));
         }
-        mending::put_rows(&mut self.shelf, self.sizes, &damage, &plan);
+        mending::put_rows(&mut self.group, &plan);
         Ok(damage.count)
     }
 }

@@ -10,22 +10,20 @@ const STOCKED: [u8; 20] = [
 ];
 
 fn stocked() -> [Byte; 20] {
-    let mut symbols = [Byte(0); 20];
-    for at in 0..20 {
-        symbols[at] = Byte(STOCKED[at]);
-    }
-    symbols
+    STOCKED.map(Byte)
 }
 
 // A tray of these sizes that is taken in, over memory as it stands.
 fn taken_in<'a>(symbols: &'a mut [Byte], marks: &'a mut [u8]) -> Tray<ArrayShelf<'a, Byte>> {
     Tray {
-        shelf: ArrayShelf::over(4, 5, symbols, marks),
-        sizes: Sizes {
-            data_rows: 2,
-            parity_rows: 2,
-            block_length: 3,
-            card_length: 2,
+        group: Group {
+            shelf: ArrayShelf::over(4, 5, symbols, marks),
+            sizes: Sizes {
+                data_rows: 2,
+                parity_rows: 2,
+                block_length: 3,
+                card_length: 2,
+            },
         },
         taken_in: true,
         round: Round::Resting,

@@ -11,6 +11,7 @@ use std::alloc::{AllocError, Global};
 use std::test::Fail;
 use tray::Tray;
 
+// In order, for short tests; no function of Sizes, where four numbers without names could change places.
 fn sizes(data_rows: usize, parity_rows: usize, block_length: usize, card_length: usize) -> Sizes {
     Sizes {
         data_rows,
@@ -20,23 +21,11 @@ fn sizes(data_rows: usize, parity_rows: usize, block_length: usize, card_length:
     }
 }
 
-// Whether a tray of these sizes fits, over a shelf of zeros that has its rows and places.
-fn byte_fits(heap: Global, sizes: Sizes) -> Result<bool, AllocError> {
-    let rows = sizes.data_rows.saturating_add(sizes.parity_rows);
-    let places = sizes.block_length.saturating_add(sizes.card_length);
-    let mut symbols = vec![in heap; Byte(0); rows.saturating_mul(places)]?;
-    let mut marks = vec![in heap; 1; rows.saturating_mul(places)]?;
-    let tray = Tray::over(
-        ArrayShelf::over(rows, places, &mut symbols, &mut marks),
-        sizes,
-    );
-    Ok(tray.fit().is_ok())
-}
-
-fn counter_fits(heap: Global, sizes: Sizes) -> Result<bool, AllocError> {
-    let rows = sizes.data_rows.saturating_add(sizes.parity_rows);
-    let places = sizes.block_length.saturating_add(sizes.card_length);
-    let mut symbols = vec![in heap; Counter::Low(0); rows.saturating_mul(places)]?;
+// Whether a tray of these sizes fits, over a shelf of zeros that has its rows and places. Over lent memory, so life's bench, which owns its memory, is another.
+fn fits<F: Field>(heap: Global, sizes: Sizes) -> Result<bool, AllocError> {
+    let rows = sizes.rows();
+    let places = sizes.places();
+    let mut symbols = vec![in heap; F::zero(); rows.saturating_mul(places)]?;
     let mut marks = vec![in heap; 1; rows.saturating_mul(places)]?;
     let tray = Tray::over(
         ArrayShelf::over(rows, places, &mut symbols, &mut marks),
@@ -48,18 +37,18 @@ fn counter_fits(heap: Global, sizes: Sizes) -> Result<bool, AllocError> {
 #[test]
 fn limits_of_the_sizes(rt: HostRuntime) -> Result<(), Fail> {
     let heap = rt.alloc();
-    assert!(rt; byte_fits(heap, sizes(1, 1, 255, 2))?);
-    assert!(rt; !byte_fits(heap, sizes(1, 1, 256, 2))?);
-    assert!(rt; counter_fits(heap, sizes(1, 1, 4_096, 2))?);
-    assert!(rt; !counter_fits(heap, sizes(1, 1, 4_097, 2))?);
-    assert!(rt; byte_fits(heap, sizes(64, 4, 1, 8))?);
-    assert!(rt; !byte_fits(heap, sizes(65, 4, 1, 8))?);
-    assert!(rt; !byte_fits(heap, sizes(0, 4, 1, 8))?);
-    assert!(rt; !byte_fits(heap, sizes(2, 5, 1, 2))?);
-    assert!(rt; !byte_fits(heap, sizes(2, 0, 1, 2))?);
-    assert!(rt; !byte_fits(heap, sizes(2, 2, 0, 2))?);
-    assert!(rt; !byte_fits(heap, sizes(2, 2, 1, 1))?);
-    assert!(rt; !byte_fits(heap, sizes(2, 2, 1, 9))?);
+    assert!(rt; fits::<Byte>(heap, sizes(1, 1, 255, 2))?);
+    assert!(rt; !fits::<Byte>(heap, sizes(1, 1, 256, 2))?);
+    assert!(rt; fits::<Counter>(heap, sizes(1, 1, 4_096, 2))?);
+    assert!(rt; !fits::<Counter>(heap, sizes(1, 1, 4_097, 2))?);
+    assert!(rt; fits::<Byte>(heap, sizes(64, 4, 1, 8))?);
+    assert!(rt; !fits::<Byte>(heap, sizes(65, 4, 1, 8))?);
+    assert!(rt; !fits::<Byte>(heap, sizes(0, 4, 1, 8))?);
+    assert!(rt; !fits::<Byte>(heap, sizes(2, 5, 1, 2))?);
+    assert!(rt; !fits::<Byte>(heap, sizes(2, 0, 1, 2))?);
+    assert!(rt; !fits::<Byte>(heap, sizes(2, 2, 0, 2))?);
+    assert!(rt; !fits::<Byte>(heap, sizes(2, 2, 1, 1))?);
+    assert!(rt; !fits::<Byte>(heap, sizes(2, 2, 1, 9))?);
     Ok(())
 }
 
@@ -98,39 +87,39 @@ const EXAMPLE: [Byte; 20] = [
 
 const MARKS: [u8; 20] = [1, 1, 1, 1, 0, 1, 1, 1, 0, 1, 1, 1, 1, 0, 0, 1, 1, 1, 0, 0];
 
+// What stands in the memory once the example is taken in.
+const STOCKED: [usize; 20] = [
+    1, 2, 3, 0, 9, 4, 0, 0, 4, 4, 5, 2, 3, 4, 13, 163, 81, 247, 5, 250,
+];
+
+// A tray of the example's sizes over this memory.
+fn delivered<'a>(symbols: &'a mut [Byte], marks: &'a mut [u8]) -> Tray<ArrayShelf<'a, Byte>> {
+    Tray::over(ArrayShelf::over(4, 5, symbols, marks), sizes(2, 2, 3, 2))
+}
+
 #[test]
 fn intake_puts_every_card_once(rt: HostRuntime) {
     let mut symbols = EXAMPLE;
     let mut marks = MARKS;
     {
-        let shelf = ArrayShelf::over(4, 5, &mut symbols, &mut marks);
-        let mut tray = Tray::over(shelf, sizes(2, 2, 3, 2));
+        let mut tray = delivered(&mut symbols, &mut marks);
         assert_eq!(rt; tray.intake(), Ok(()));
         assert_eq!(rt; tray.intake(), Err(Refusal::TakenInAlready));
     }
-    let cards = [0, 9, 4, 4, 4, 13, 5, 250];
-    for row in 0..4usize {
-        for c in 0..2usize {
-            assert_eq!(rt; symbols[row * 5 + 3 + c], Byte(cards[row * 2 + c]));
-            assert_eq!(rt; marks[row * 5 + 3 + c], 1);
-        }
-    }
+    assert_eq!(rt; numbers(&symbols), STOCKED);
+    assert_eq!(rt; marks, [1; 20]);
 }
 
 // The example's tray, taken in over this memory.
 fn example<'a>(symbols: &'a mut [Byte], marks: &'a mut [u8]) -> Tray<ArrayShelf<'a, Byte>> {
-    let mut tray = Tray::over(ArrayShelf::over(4, 5, symbols, marks), sizes(2, 2, 3, 2));
+    let mut tray = delivered(symbols, marks);
     let _ = tray.intake();
     tray
 }
 
 // What stands in the memory of a tray of the example's sizes.
 fn numbers<F: Field>(symbols: &[F; 20]) -> [usize; 20] {
-    let mut numbers = [0; 20];
-    for at in 0..20 {
-        numbers[at] = symbols[at].number();
-    }
-    numbers
+    std::array::from_fn(|at| symbols[at].number())
 }
 
 // What intake answers to the example with one symbol or one mark changed.
@@ -141,11 +130,7 @@ fn answer(at: usize, symbol: u8, mark: u8) -> Result<(), Refusal> {
         symbols[at] = Byte(symbol);
         marks[at] = mark;
     }
-    Tray::over(
-        ArrayShelf::over(4, 5, &mut symbols, &mut marks),
-        sizes(2, 2, 3, 2),
-    )
-    .intake()
+    delivered(&mut symbols, &mut marks).intake()
 }
 
 #[test]
@@ -164,10 +149,7 @@ fn intake_names_the_lowest_row_and_then_the_lowest_place(rt: HostRuntime) {
     let mut marks = MARKS;
     symbols[12] = Byte(4);
     symbols[15] = Byte(0);
-    let mut tray = Tray::over(
-        ArrayShelf::over(4, 5, &mut symbols, &mut marks),
-        sizes(2, 2, 3, 2),
-    );
+    let mut tray = delivered(&mut symbols, &mut marks);
     assert_eq!(rt; tray.intake(), Err(Refusal::Misfit(2, 2)));
     assert_eq!(rt; tray.intake(), Err(Refusal::Misfit(2, 2)));
 }
@@ -179,9 +161,6 @@ fn intake_looks_for_holes_first(rt: HostRuntime) {
     symbols[10] = Byte(0);
     marks[12] = 0;
     marks[15] = 0;
-    let mut tray = Tray::over(
-        ArrayShelf::over(4, 5, &mut symbols, &mut marks),
-        sizes(2, 2, 3, 2),
-    );
+    let mut tray = delivered(&mut symbols, &mut marks);
     assert_eq!(rt; tray.intake(), Err(Refusal::Unreadable(2, 2)));
 }

@@ -6,86 +6,94 @@ use byte_field::Byte;
 use counter_field::Counter;
 use std::fs;
 
-// What the numbers of a table's lines are. Lines count from 0.
-#[derive(Clone, Copy)]
-enum Table {
-    // Line i has the number of alpha^i.
-    Powers,
-    // Line v has the i with alpha^i = v; line 0 has 0 and means nothing.
-    Logs,
-    // Line v has the inverse of v.
-    Inverses,
-    // A number and its inverse.
-    InversePairs,
-    // Two numbers and their product.
-    Products,
-}
-
-fn log_is<F: Field>(number: usize, exponent: usize) -> bool {
-    if number == 0 {
-        exponent == 0
-    } else {
-        algebra::power_of_alpha::<F>(exponent).number() == number
-    }
-}
-
 fn inverse_is<F: Field>(number: usize, inverse: usize) -> bool {
-    match F::numbered(number) {
-        Some(x) => x.inverse().number() == inverse,
-        None => false,
-    }
+    F::numbered(number).is_some_and(|x| x.inverse().number() == inverse)
 }
 
-fn product_is<F: Field>(left: usize, right: usize, product: usize) -> bool {
-    match (F::numbered(left), F::numbered(right)) {
-        (Some(x), Some(y)) => x.product(y).number() == product,
+// What a line of a table says, by its number, counted from 0, and the numbers on it.
+
+// Line i has the number of alpha^i.
+fn powers<F: Field>(line: usize, numbers: &[usize]) -> bool {
+    match numbers {
+        [power] => algebra::power_of_alpha::<F>(line).number() == *power,
         _ => false,
     }
 }
 
-fn agrees<F: Field>(table: Table, line: usize, numbers: &[usize]) -> bool {
-    match (table, numbers) {
-        (Table::Powers, [value]) => algebra::power_of_alpha::<F>(line).number() == *value,
-        (Table::Logs, [exponent]) => log_is::<F>(line, *exponent),
-        (Table::Inverses, [inverse]) => inverse_is::<F>(line, *inverse),
-        (Table::InversePairs, [number, inverse]) => inverse_is::<F>(*number, *inverse),
-        (Table::Products, [left, right, product]) => product_is::<F>(*left, *right, *product),
+// Line v has the i with alpha^i = v; line 0 has 0 and means nothing.
+fn logs<F: Field>(line: usize, numbers: &[usize]) -> bool {
+    match numbers {
+        [exponent] if line == 0 => *exponent == 0,
+        [exponent] => algebra::power_of_alpha::<F>(*exponent).number() == line,
         _ => false,
     }
 }
 
-// How many lines of the text agree with the field, and how many there are.
-fn tally<F: Field>(rt: &HostRuntime, table: Table, text: &str) -> anyhow::Result<(usize, usize)> {
-    let mut agreed: usize = 0;
-    let mut lines: usize = 0;
+// Line v has the inverse of v.
+fn inverses<F: Field>(line: usize, numbers: &[usize]) -> bool {
+    match numbers {
+        [inverse] => inverse_is::<F>(line, *inverse),
+        _ => false,
+    }
+}
+
+// A number and its inverse. Tables of pairs have another pattern than tables by line.
+fn inverse_pairs<F: Field>(_line: usize, numbers: &[usize]) -> bool {
+    match numbers {
+        [number, inverse] => inverse_is::<F>(*number, *inverse),
+        _ => false,
+    }
+}
+
+// Two numbers and their product.
+fn products<F: Field>(_line: usize, numbers: &[usize]) -> bool {
+    let [left, right, product] = numbers else {
+        return false;
+    };
+    match (F::numbered(*left), F::numbered(*right)) {
+        (Some(x), Some(y)) => x.product(y).number() == *product,
+        _ => false,
+    }
+}
+
+fn read_table(rt: &HostRuntime, name: &str) -> anyhow::Result<Vec<Vec<usize>>> {
+    let text = fs::read_to_string(rt, name)?;
+    let mut table = Vec::new(rt.alloc());
     for line in text.lines() {
         let mut numbers = Vec::new(rt.alloc());
         for word in line.split_whitespace() {
             numbers.push(word.parse::<usize>()?)?;
         }
-        if agrees::<F>(table, lines, &numbers) {
-            agreed = agreed.saturating_add(1);
-        }
-        lines = lines.saturating_add(1);
+        table.push(numbers)?;
     }
-    Ok((agreed, lines))
+    Ok(table)
 }
 
-fn show<F: Field>(rt: &HostRuntime, name: &str, table: Table) -> anyhow::Result<()> {
-    let text = fs::read_to_string(rt, name)?;
-    let (agreed, lines) = tally::<F>(rt, table, text.as_str())?;
-    println!(rt; "{name} {agreed} of {lines} agree")?;
+fn show<A: Fn(usize, &[usize]) -> bool + Drop>(
+    rt: &HostRuntime,
+    name: &str,
+    agrees: A,
+) -> anyhow::Result<()>
+    requires { A.IsAlwaysCallable agrees }
+{
+    let table = read_table(rt, name)?;
+    let agreed = table
+        .iter()
+        .enumerate()
+        .filter(|(line, numbers)| agrees(*line, numbers))
+        .count();
+    println!(rt; "{name} {agreed} of {} agree", table.len())?;
     Ok(())
 }
 
 fn run(rt: &HostRuntime) -> anyhow::Result<()> {
-    show::<Byte>(rt, "byte-antilog.txt", Table::Powers)?;
-    show::<Byte>(rt, "byte-log.txt", Table::Logs)?;
-    show::<Byte>(rt, "byte-inverse.txt", Table::Inverses)?;
-    show::<Byte>(rt, "byte-products.txt", Table::Products)?;
-    show::<Counter>(rt, "counter-powers.txt", Table::Powers)?;
-    show::<Counter>(rt, "counter-inverse.txt", Table::InversePairs)?;
-    show::<Counter>(rt, "counter-products.txt", Table::Products)
+    show(rt, "byte-antilog.txt", powers::<Byte>)?;
+    show(rt, "byte-log.txt", logs::<Byte>)?;
+    show(rt, "byte-inverse.txt", inverses::<Byte>)?;
+    show(rt, "byte-products.txt", products::<Byte>)?;
+    show(rt, "counter-powers.txt", powers::<Counter>)?;
+    show(rt, "counter-inverse.txt", inverse_pairs::<Counter>)?;
+    show(rt, "counter-products.txt", products::<Counter>)
 }
 
 fn main(rt: HostRuntime) -> anyhow::Result<()> {

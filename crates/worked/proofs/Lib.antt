@@ -1,3 +1,4 @@
+mod Computing
 pub mod Tested
 pub mod Run
 mod Searches

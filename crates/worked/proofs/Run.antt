@@ -1,11 +1,8 @@
 -- The example's run, step by step.
 use Rattle.std.proofs.Common.{◌≡◌, ℕ, zero, suc, ◌+◌, ◌<◌, true, false, Some, None, List, [], ◌∷◌, refl, ap, subst, subst₂, inl, inr, arith}
-use Rattle.std.proofs.lemmas.Bool.{both_ways}
+use Rattle.std.proofs.lemmas.Bool.{agree_below_at, both_ways}
 use Rattle.algebra.specs.Below.{Below}
-use Rattle.algebra.specs.Modular.{inverse_by}
-use Rattle.algebra.specs.Polynomial.{polynomial_product, product_of_bits, remainder}
 use Rattle.byte_field.specs.Meaning.{byte_algebra}
-use Rattle.byte_field.specs.Product.{◌·◌, squares, inverse}
 use Rattle.rules.specs.Calls.{intake, write, mend, done, mended, refused}
 use Rattle.rules.specs.Promises.{Promise, accepted, did_intake, did_write, did_mend}
 use Rattle.rules.specs.States.{State, unread, cell, fits, sound, unsound_count}
@@ -21,7 +18,8 @@ use Rattle.rules.proofs.Refusals.{refusal, unrefused, refused_promise}
 use Rattle.rules.proofs.Rows.{struck_unsound}
 use Rattle.rules.proofs.Writing.{none_over}
 use Rattle.worked.specs.Run.{example_sizes, held, delivered, tray, stocked, rewritten, broken, partly_right, first_blocks, blocks, Called, Steps, run, ExampleRun}
-use Rattle.worked.proofs.Tested.{each, each_true, alike, alike_contents, whole, whole_equal, whole_but, block_struck, card_struck}
+use Rattle.worked.proofs.Computing.{computing}
+use Rattle.worked.proofs.Tested.{each, alike, alike_contents, whole, whole_equal, whole_but, block_struck, card_struck}
 
 -- a tray over these cells holds what these rows hold
 tray_holds : (cells : ℕ → ℕ → Cell (Below 256)) (rows : List (List ℕ)) → alike 4 5 cells (held rows) ≡ true
@@ -31,11 +29,11 @@ tray_holds cells rows e =
     (alike_contents 4 5 cells (held rows) e)
 
 intake_unrefused : refusal byte_algebra delivered intake ≡ None
-unfolding ◌·◌ squares inverse polynomial_product product_of_bits remainder inverse_by
+unfolding computing
 intake_unrefused = refl
 
 intake_cells : alike 4 5 (carded byte_algebra delivered) (held stocked) ≡ true
-unfolding ◌·◌ squares inverse polynomial_product product_of_bits remainder inverse_by
+unfolding computing
 intake_cells = refl
 
 taken_in : Promise byte_algebra delivered intake done (tray stocked)
@@ -44,27 +42,27 @@ taken_in =
     (accepted (unrefused byte_algebra delivered intake intake_unrefused) did_intake)
 
 write_unrefused : refusal byte_algebra (tray stocked) (write 0 1 (byte_algebra.element 7 ∷ [])) ≡ None
-unfolding ◌·◌ squares inverse polynomial_product product_of_bits remainder inverse_by
+unfolding computing
 write_unrefused = refl
 
 write_cells : alike 4 5 (written byte_algebra (tray stocked) 0 1 (byte_algebra.element 7 ∷ []) (cell (tray stocked))) (held rewritten) ≡ true
-unfolding ◌·◌ squares inverse polynomial_product product_of_bits remainder inverse_by
+unfolding computing
 write_cells = refl
 
 abbrev seven : List (Below 256)
 seven = byte_algebra.element 7 ∷ []
 
 stocked_fits : fits byte_algebra (tray stocked) ≡ true
-unfolding ◌·◌ squares inverse polynomial_product product_of_bits remainder inverse_by
+unfolding computing
 stocked_fits = refl
 
 stocked_sound : each 4 (sound byte_algebra (tray stocked)) ≡ true
-unfolding ◌·◌ squares inverse polynomial_product product_of_bits remainder inverse_by
+unfolding computing
 stocked_sound = refl
 
 stocked_clear : (row : ℕ) → row < 4 → StruckRow byte_algebra first_blocks (tray stocked) row → ⊥
 stocked_clear row l struck =
-    struck_unsound byte_algebra (tray stocked) first_blocks row stocked_fits struck (each_true 4 (sound byte_algebra (tray stocked)) stocked_sound row l)
+    struck_unsound byte_algebra (tray stocked) first_blocks row stocked_fits struck (agree_below_at (sound byte_algebra (tray stocked)) (λ _. true) 4 row stocked_sound l)
 
 wrote : Called first_blocks (tray stocked) (write 0 1 seven) done (tray rewritten) blocks
 wrote = record {
@@ -83,23 +81,23 @@ abbrev eight : List (Below 256)
 eight = byte_algebra.element 8 ∷ []
 
 rewritten_fits : fits byte_algebra (tray rewritten) ≡ true
-unfolding ◌·◌ squares inverse polynomial_product product_of_bits remainder inverse_by
+unfolding computing
 rewritten_fits = refl
 
 rewritten_sound : each 4 (sound byte_algebra (tray rewritten)) ≡ true
-unfolding ◌·◌ squares inverse polynomial_product product_of_bits remainder inverse_by
+unfolding computing
 rewritten_sound = refl
 
 rewritten_clear : (row : ℕ) → row < 4 → StruckRow byte_algebra blocks (tray rewritten) row → ⊥
 rewritten_clear row l struck =
-    struck_unsound byte_algebra (tray rewritten) blocks row rewritten_fits struck (each_true 4 (sound byte_algebra (tray rewritten)) rewritten_sound row l)
+    struck_unsound byte_algebra (tray rewritten) blocks row rewritten_fits struck (agree_below_at (sound byte_algebra (tray rewritten)) (λ _. true) 4 row rewritten_sound l)
 
 empty_unrefused : refusal byte_algebra (tray rewritten) (write 0 3 []) ≡ None
-unfolding ◌·◌ squares inverse polynomial_product product_of_bits remainder inverse_by
+unfolding computing
 empty_unrefused = refl
 
 empty_cells : alike 4 5 (cell (tray rewritten)) (held rewritten) ≡ true
-unfolding ◌·◌ squares inverse polynomial_product product_of_bits remainder inverse_by
+unfolding computing
 empty_cells = refl
 
 none_written : Called blocks (tray rewritten) (write 0 3 []) done (tray rewritten) blocks
@@ -125,7 +123,7 @@ not_taken s row start xs free = stands (λ r t ys e takes.
     free (rw (← rows, ← starts, ← symbols) takes))
 
 span_refused : refusal byte_algebra (tray rewritten) (write 0 3 eight) ≡ Some (BadSpan 3)
-unfolding ◌·◌ squares inverse polynomial_product product_of_bits remainder inverse_by
+unfolding computing
 span_refused = refl
 
 none_beyond : Called blocks (tray rewritten) (write 0 3 eight) (refused (BadSpan 3)) (tray rewritten) blocks
@@ -135,15 +133,15 @@ none_beyond = record {
 }
 
 broken_0 : whole_but 2 5 (cell (tray broken) 0) (twin_at byte_algebra blocks (tray broken) 0) ≡ true
-unfolding ◌·◌ squares inverse polynomial_product product_of_bits remainder inverse_by
+unfolding computing
 broken_0 = refl
 
 broken_2 : whole 5 (cell (tray broken) 2) (twin_at byte_algebra blocks (tray broken) 2) ≡ true
-unfolding ◌·◌ squares inverse polynomial_product product_of_bits remainder inverse_by
+unfolding computing
 broken_2 = refl
 
 broken_3 : whole_but 4 5 (cell (tray broken) 3) (twin_at byte_algebra blocks (tray broken) 3) ≡ true
-unfolding ◌·◌ squares inverse polynomial_product product_of_bits remainder inverse_by
+unfolding computing
 broken_3 = refl
 
 struck_0 : StruckRow byte_algebra blocks (tray broken) 0
@@ -157,7 +155,7 @@ damaged (suc (suc (suc zero))) l = inr (card_struck 3 2 (cell (tray broken) 3) (
 damaged (suc (suc (suc (suc row)))) l = absurd (omega arith)
 
 eight_refused : refusal byte_algebra (tray broken) (write 0 0 eight) ≡ Some (Unsound 0 (Card 0))
-unfolding ◌·◌ squares inverse polynomial_product product_of_bits remainder inverse_by
+unfolding computing
 eight_refused = refl
 
 not_written : Called blocks (tray broken) (write 0 0 eight) (refused (Unsound 0 (Card 0))) (tray broken) blocks
@@ -167,7 +165,7 @@ not_written = record {
 }
 
 mend_refused : refusal byte_algebra (tray broken) mend ≡ Some (TooManyUnsound 3)
-unfolding ◌·◌ squares inverse polynomial_product product_of_bits remainder inverse_by
+unfolding computing
 mend_refused = refl
 
 -- mend is no write
@@ -178,15 +176,15 @@ not_mended : Called blocks (tray broken) mend (refused (TooManyUnsound 3)) (tray
 not_mended = record { promised = refused_promise byte_algebra (tray broken) _ _ mend_refused; followed = mend_stands (tray broken) }
 
 relieved_0 : whole 5 (cell (tray partly_right) 0) (twin_at byte_algebra blocks (tray partly_right) 0) ≡ true
-unfolding ◌·◌ squares inverse polynomial_product product_of_bits remainder inverse_by
+unfolding computing
 relieved_0 = refl
 
 relieved_2 : whole 5 (cell (tray partly_right) 2) (twin_at byte_algebra blocks (tray partly_right) 2) ≡ true
-unfolding ◌·◌ squares inverse polynomial_product product_of_bits remainder inverse_by
+unfolding computing
 relieved_2 = refl
 
 relieved_3 : whole_but 4 5 (cell (tray partly_right) 3) (twin_at byte_algebra blocks (tray partly_right) 3) ≡ true
-unfolding ◌·◌ squares inverse polynomial_product product_of_bits remainder inverse_by
+unfolding computing
 relieved_3 = refl
 
 lessened : Damage byte_algebra blocks (tray broken) (held partly_right)
@@ -197,15 +195,15 @@ lessened (suc (suc (suc zero))) l = inr (card_struck 3 2 (cell (tray partly_righ
 lessened (suc (suc (suc (suc row)))) l = absurd (omega arith)
 
 relieved_fits : fits byte_algebra (tray partly_right) ≡ true
-unfolding ◌·◌ squares inverse polynomial_product product_of_bits remainder inverse_by
+unfolding computing
 relieved_fits = refl
 
 two_unsound : unsound_count byte_algebra (tray partly_right) ≡ 2
-unfolding ◌·◌ squares inverse polynomial_product product_of_bits remainder inverse_by
+unfolding computing
 two_unsound = refl
 
 mend_cells : alike 4 5 (mended_cells byte_algebra (tray partly_right) blocks) (held rewritten) ≡ true
-unfolding ◌·◌ squares inverse polynomial_product product_of_bits remainder inverse_by
+unfolding computing
 mend_cells = refl
 
 kept : Kept byte_algebra blocks (tray partly_right)
@@ -222,13 +220,13 @@ mended_two = record {
 }
 
 rewritten_whole : each 4 (λ row. whole 5 (cell (tray rewritten) row) (twin_at byte_algebra blocks (tray rewritten) row)) ≡ true
-unfolding ◌·◌ squares inverse polynomial_product product_of_bits remainder inverse_by
+unfolding computing
 rewritten_whole = refl
 
 equal : (row : ℕ) → row < 4 → EqualRow byte_algebra blocks (tray rewritten) row
 equal row l =
     whole_equal 3 2 (cell (tray rewritten) row) (twin_at byte_algebra blocks (tray rewritten) row)
-    (each_true 4 (λ r. whole 5 (cell (tray rewritten) r) (twin_at byte_algebra blocks (tray rewritten) r)) rewritten_whole row l)
+    (agree_below_at (λ r. whole 5 (cell (tray rewritten) r) (twin_at byte_algebra blocks (tray rewritten) r)) (λ _. true) 4 row rewritten_whole l)
 
 steps : Steps
 steps = record {

@@ -1,8 +1,7 @@
 -- Tables and rows of bytes, compared by tests that compute.
-use Rattle.std.proofs.Common.{◌≡◌, ℕ, zero, suc, ◌+◌, ◌<◌, ◌≤◌, Bool, true, false, not, ◌&&◌, ◌||◌, eqb, ◌⊎◌, [], ◌∷◌, refl, ap, ◌∙◌, inl, inr, arith}
+use Rattle.std.proofs.Common.{◌≡◌, ℕ, ◌+◌, ◌<◌, ◌≤◌, Bool, true, false, not, ◌&&◌, ◌||◌, eqb, ◌⊎◌, [], ◌∷◌, refl, ap, inl, inr, arith}
 use mathlib.Core.List.Memᴰ.{head as here}
-use native.Mathlib.Decide.{ℕ_discrete}
-use Rattle.std.proofs.lemmas.Bool.{both_ways, and_parts, eqb-true, eq-eqb, ltb-true, not-true}
+use Rattle.std.proofs.lemmas.Bool.{agree_below, agree_below_at, both_ways, and_parts, eqb-true, eq-eqb, ltb-true, not-true}
 use Rattle.algebra.specs.Below.{Below, same_below}
 use Rattle.algebra.proofs.Cases.{by_cases}
 use Rattle.shelves.specs.Contents.{Cell, symbol, hole, within, filled}
@@ -11,16 +10,7 @@ use Rattle.rules.specs.Twins.{Equal, Struck, card_off, block_off}
 
 -- a test passes at every number below a bound
 abbrev pub each : ℕ → (ℕ → Bool) → Bool
-each zero test = true
-each (suc n) test = each n test && test n
-
-pub each_true : (n : ℕ) (test : ℕ → Bool) → each n test ≡ true → (i : ℕ) → i < n → test i ≡ true
-each_true zero test e i h = absurd (omega arith)
-each_true (suc n) test e i h =
-    elim (ℕ_discrete i n) [
-      | yes at ↦ ap test at ∙ (and_parts _ _ e).1
-      | no ne ↦ each_true n test (and_parts _ _ e).0 i (omega arith)
-    ]
+each n test = agree_below test (λ _. true) n
 
 module _ {q : ℕ} where
   abbrev pub same : Cell (Below q) → Cell (Below q) → Bool
@@ -53,7 +43,7 @@ module _ {q : ℕ} where
       same_contents (filled rows places f) (filled rows places g) refl refl (λ row place.
       by_cases (within rows places row place)
       (λ is. let inside = and_parts _ _ is in
-      rw is (same_true _ _ (each_true places _ (each_true rows _ e row (ltb-true _ _ inside.0)) place (ltb-true _ _ inside.1))))
+      rw is (same_true _ _ (agree_below_at _ (λ _. true) places place (agree_below_at _ (λ _. true) rows row e (ltb-true _ _ inside.0)) (ltb-true _ _ inside.1))))
       (λ out. rw out))
 
   -- a row holds what it should
@@ -61,7 +51,7 @@ module _ {q : ℕ} where
   whole places cells owed = each places (λ place. same (cells place) (symbol (owed place)))
 
   pub whole_equal : (n m : ℕ) (cells : ℕ → Cell (Below q)) (owed : ℕ → Below q) → whole (n + m) cells owed ≡ true → Equal n m cells owed
-  whole_equal n m cells owed e place l = same_true _ _ (each_true (n + m) _ e place l)
+  whole_equal n m cells owed e place l = same_true _ _ (agree_below_at _ (λ _. true) (n + m) place e l)
 
   -- it holds what it should but at one place
   abbrev pub whole_but : ℕ → ℕ → (ℕ → Cell (Below q)) → (ℕ → Below q) → Bool
@@ -72,7 +62,7 @@ module _ {q : ℕ} where
     elsewhere t l =
         by_cases (eqb t place)
         (λ here. inr (eqb-true t place here))
-        (λ there. inl (same_true _ _ (rw there at (each_true (n + m) (λ u. eqb u place || same (cells u) (symbol (owed u))) (and_parts _ _ e).0 t l))))
+        (λ there. inl (same_true _ _ (rw there at (agree_below_at (λ u. eqb u place || same (cells u) (symbol (owed u))) (λ _. true) (n + m) t (and_parts _ _ e).0 l))))
 
     differs : cells place ≡ symbol (owed place) → ⊥
     differs = same_false _ _ (not-true _ (and_parts _ _ e).1)

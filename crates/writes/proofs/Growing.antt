@@ -1,5 +1,5 @@
 -- Growing cells: one put after the other, and what they come to.
-use Rattle.std.proofs.Common.{◌≡◌, ℕ, List, subst, zero, suc, ◌+◌, ◌-◌, ◌<◌, Bool, true, false, cond, ◌&&◌, ◌||◌, eqb, ltb, leb, sym, refl, ap, ◌∙◌, ap₂, inl, inr, arith, eq-eqb, eqb-true, lt-ltb, le-leb, le-ltb}
+use Rattle.std.proofs.Common.{◌≡◌, ℕ, subst, zero, suc, ◌+◌, ◌-◌, ◌<◌, Bool, true, false, cond, ◌&&◌, ◌||◌, eqb, ltb, leb, sym, refl, ap, ◌∙◌, ap₂, inl, inr, arith, eq-eqb, eqb-true, lt-ltb, le-leb, le-ltb}
 use mathlib.Core.Path.{fun_ext}
 use Rattle.std.proofs.lemmas.Bool.{cases_eq, and_parts}
 use Rattle.std.proofs.lemmas.Bool.Decides.{nat_tests}
@@ -15,7 +15,6 @@ use Rattle.rules.specs.Updates.{grow, weight, own_change, written_one}
 use Rattle.rules.specs.Views.{seen, seen_cell, same_hole, element_at}
 use Rattle.rules.specs.declared.Sizes.{Sizes}
 use Rattle.rules.proofs.Rows.{fitting}
-use Rattle.writes.specs.Weights.{PowersAt}
 use Rattle.writes.specs.Steps.{place_grown, card_grown, row_grown, rows_grown, cells_of, Puts, Readable}
 
 module _ {A : Type 0} (F : Field A) (s : State A) where
@@ -159,26 +158,26 @@ module _ {X A : Type 0} (F : Field A) (meaning : X → A) (sizes : Sizes) where
 
     -- a card with one component more
     pub card_step : {when : Type 0} (now_held after : Contents X) (row t : ℕ) (d : A) (i u : ℕ) (e : A) → (when → Readable F meaning sizes before row)
-        → (when → u ≡ n s + i) → (when → e ≡ F.mul (weight F s t (n s + i)) d) → i < m s
+        → (when → u ≡ n s + i) → (when → e ≡ F.mul (weight F s t (n s + i)) d) → (when → i < m s)
         → Puts meaning when (card_grown F s row t d i (cells_of meaning before)) before now_held
         → Puts meaning (Readable F meaning sizes now_held row × (u < n s + m s)) (place_grown F s row u e (cells_of meaning now_held)) now_held after
         → Puts meaning when (card_grown F s row t d (i + 1) (cells_of meaning before)) before after
-    card_step now_held after row t d i u e readable there own l held put = record {
+    card_step now_held after row t d i u e readable there own below held put = record {
       rows = put.rows ∙ held.rows;
       places = put.places ∙ held.places;
       at = λ met r v.
-          put.at (still_readable row held met (λ w. card_hole F s row t d i (cells_of meaning before) row w) (readable met), let at = there met in omega arith) r v
+          put.at (still_readable row held met (λ w. card_hole F s row t d i (cells_of meaning before) row w) (readable met), let at = there met in let l = below met in omega arith) r v
           ∙ ap₂ (λ (w : ℕ) (x : A). place_grown F s row w x (cells_of meaning now_held) r v) (there met) (own met)
           ∙ ap (λ c. cond (eqb r row && eqb v (n s + i)) (grow F s (F.mul (weight F s t (n s + i)) d) c) c) (held.at met r v)
           ∙ card_more F s row t d i (cells_of meaning before) r v;
     }
 
     -- a symbol of the block and then the card
-    pub row_step : (now_held after : Contents X) (row t : ℕ) (d : A) (powers : List ℕ)
+    pub row_step : (now_held after : Contents X) (row t : ℕ) (d : A) {also : Type 0}
         → Puts meaning (Readable F meaning sizes before row × (t < n s + m s)) (place_grown F s row t d (cells_of meaning before)) before now_held
-        → Puts meaning (Readable F meaning sizes now_held row × PowersAt F (m s) t powers) (card_grown F s row t d (m s) (cells_of meaning now_held)) now_held after
-        → Puts meaning (Readable F meaning sizes before row × (t < n s) × PowersAt F (m s) t powers) (row_grown F s row t d (cells_of meaning before)) before after
-    row_step now_held after row t d powers placed carded = record {
+        → Puts meaning (Readable F meaning sizes now_held row × also) (card_grown F s row t d (m s) (cells_of meaning now_held)) now_held after
+        → Puts meaning (Readable F meaning sizes before row × (t < n s) × also) (row_grown F s row t d (cells_of meaning before)) before after
+    row_step now_held after row t d placed carded = record {
       rows = carded.rows ∙ placed.rows;
       places = carded.places ∙ placed.places;
       at = λ met r v.
@@ -188,12 +187,12 @@ module _ {X A : Type 0} (F : Field A) (meaning : X → A) (sizes : Sizes) where
     }
 
     -- one parity row more
-    pub rows_step : {when : Type 0} (now_held after : Contents X) (row t : ℕ) (d : A) (i r : ℕ) (e : A) (powers : List ℕ) → (when → Readable F meaning sizes before (k s + i))
-        → (when → t < n s) → (when → PowersAt F (m s) t powers) → (when → r ≡ k s + i) → (when → e ≡ F.mul (coefficient F i row) d)
+    pub rows_step : {when : Type 0} (now_held after : Contents X) (row t : ℕ) (d : A) (i r : ℕ) (e : A) {also : Type 0} → (when → Readable F meaning sizes before (k s + i))
+        → (when → t < n s) → (when → also) → (when → r ≡ k s + i) → (when → e ≡ F.mul (coefficient F i row) d)
         → Puts meaning when (rows_grown F s row t d i (cells_of meaning before)) before now_held
-        → Puts meaning (Readable F meaning sizes now_held r × (t < n s) × PowersAt F (m s) t powers) (row_grown F s r t e (cells_of meaning now_held)) now_held after
+        → Puts meaning (Readable F meaning sizes now_held r × (t < n s) × also) (row_grown F s r t e (cells_of meaning now_held)) now_held after
         → Puts meaning when (rows_grown F s row t d (i + 1) (cells_of meaning before)) before after
-    rows_step now_held after row t d i r e powers readable inside weighed there own held put = record {
+    rows_step now_held after row t d i r e readable inside weighed there own held put = record {
       rows = put.rows ∙ held.rows;
       places = put.places ∙ held.places;
       at = λ met q v.

@@ -1,5 +1,5 @@
 -- A write, one symbol after the other.
-use Rattle.std.proofs.Common.{◌≡◌, ℕ, suc, ◌+◌, ◌<◌, ◌≤◌, cond, List, [], ◌∷◌, ◌++◌, length, take, get_or, sym, refl, ap, ◌∙◌, subst, ap₂, add-zero, arith, length-take, take_all}
+use Rattle.std.proofs.Common.{◌≡◌, ℕ, suc, ◌+◌, ◌<◌, ◌≤◌, cond, List, [], ◌∷◌, ◌++◌, length, take, get_or, sym, refl, ap, ◌∙◌, ap₂, add-zero, arith, length-take, take_all}
 use mathlib.Core.Path.{fun_ext}
 use Rattle.std.specs.Prelude.{map}
 use Rattle.std.proofs.lemmas.List.{map-append, length-map}
@@ -8,12 +8,12 @@ use Rattle.algebra.specs.Algebra.{Field, minus}
 use Rattle.algebra.proofs.Cases.{by_cases}
 use Rattle.shelves.specs.Contents.{Contents, Cell, hole, is_hole, inside}
 use Rattle.shelves.proofs.Contents.{hole_is, same_contents}
-use Rattle.rules.specs.States.{State, p, n, m, cell, with_cells, symbol_or}
+use Rattle.rules.specs.States.{State, p, n, cell, with_cells, symbol_or}
 use Rattle.rules.specs.Updates.{weight, own_change, touched, written_one, written}
 use Rattle.rules.specs.Views.{seen, seen_contents, same_hole}
 use Rattle.rules.specs.declared.Sizes.{Sizes}
 use Rattle.writes.specs.Steps.{Puts, Writable, OneWritten, AllWritten, cells_of}
-use Rattle.writes.specs.Weights.{Column, PowersAt}
+use Rattle.writes.specs.Weights.{Column}
 use Rattle.writes.proofs.Growing.{hole_chosen, still_readable}
 
 module _ {A : Type 0} (F : Field A) (s : State A) (row : ℕ) where
@@ -49,13 +49,12 @@ module _ {X A : Type 0} (F : Field A) (meaning : X → A) (sizes : Sizes) (befor
       }
 
   -- one symbol more
-  pub written_more : (start i place : ℕ) (symbols : List X) (x : X) (column powers : List ℕ) (now_held after : Contents X) → i < length symbols → x ≡ get_or symbols i x
+  pub written_more : (start i place : ℕ) (symbols : List X) (x : X) (column : List ℕ) (now_held after : Contents X) → i < length symbols → x ≡ get_or symbols i x
       → (start + length symbols ≤ n s → Writable F meaning sizes before row → place ≡ start + i) → (Writable F meaning sizes before row → Column F row (p s) column)
-      → (Writable F meaning sizes before row → PowersAt F (m s) (start + i) powers)
       → Puts meaning (Writable F meaning sizes before row × (start + length symbols ≤ n s)) (written F s row start (map meaning (take i symbols)) (cells_of meaning before)) before now_held
-      → OneWritten F meaning sizes row place column powers (meaning x) now_held after
+      → OneWritten F meaning sizes row place column (meaning x) now_held after
       → Puts meaning (Writable F meaning sizes before row × (start + length symbols ≤ n s)) (written F s row start (map meaning (take (i + 1) symbols)) (cells_of meaning before)) before after
-  written_more start i place symbols x column powers now_held after h is there known weighed held put = record {
+  written_more start i place symbols x column now_held after h is there known held put = record {
     rows = put.rows ∙ held.rows;
     places = put.places ∙ held.places;
     at = λ met r u.
@@ -64,7 +63,6 @@ module _ {X A : Type 0} (F : Field A) (meaning : X → A) (sizes : Sizes) (befor
           still_writable held met (λ a b. written_hole F s row (map meaning (take i symbols)) start (cells_of meaning before) a b) met.0,
           omega (arith, at, met.1),
           known met.0,
-          subst (λ v. PowersAt F (m s) v powers) (sym at) (weighed met.0),
         ) r u
         ∙ ap₂ (λ (v : ℕ) (c : ℕ → ℕ → Cell A). written_one F s row v (meaning x) c r u) (at ∙ ap (λ (v : ℕ). start + v) (sym so_many)) (fun_ext λ a. fun_ext λ b. held.at met a b)
         ∙ sym (ap (λ c. c r u) (written_last F s row (map meaning (take i symbols)) (meaning x) start (cells_of meaning before)))

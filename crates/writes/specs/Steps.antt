@@ -7,7 +7,7 @@ use Rattle.rules.specs.States.{State, k, n, m, cell, fits, with_cells}
 use Rattle.rules.specs.Updates.{grow, weight, written_one, written}
 use Rattle.rules.specs.Views.{seen_cell, seen_contents, seen}
 use Rattle.rules.specs.declared.Sizes.{Sizes}
-use Rattle.writes.specs.Weights.{Column, PowersAt}
+use Rattle.writes.specs.Weights.{Column}
 
 module _ {A : Type 0} (F : Field A) (s : State A) where
   -- one symbol grown by d
@@ -51,11 +51,11 @@ module _ {X A : Type 0} (F : Field A) (meaning : X → A) (sizes : Sizes) where
     pub own : Readable held row
     pub parity : (i : ℕ) → i < sizes.parity_rows → Readable held (sizes.data_rows + i)
 
-  -- one symbol of a write, with the coefficients and the powers kept by number
-  abbrev pub OneWritten : ℕ → ℕ → List ℕ → List ℕ → A → Contents X → Contents X → Type 0
-  OneWritten row place column powers x before after =
+  -- one symbol of a write, with the coefficients kept by number
+  abbrev pub OneWritten : ℕ → ℕ → List ℕ → A → Contents X → Contents X → Type 0
+  OneWritten row place column x before after =
       Puts meaning
-      (Writable before row × (place < sizes.block_length) × Column F row sizes.parity_rows column × PowersAt F sizes.card_length place powers)
+      (Writable before row × (place < sizes.block_length) × Column F row sizes.parity_rows column)
       (written_one F (seen meaning sizes before) row place x (cells_of meaning before))
       before after
 

@@ -1,26 +1,19 @@
-use Rattle.std.proofs.Common.{◌≡◌, ℕ, Bool, true, not, sym, ap, ◌∙◌, ap₂, eqb, arith}
+use Rattle.std.proofs.Common.{◌≡◌, ℕ, ◌+◌, ◌<◌, Bool, true, false, rules, tests}
+use Rattle.std.proofs.lemmas.Iterator.{first_from_Range}
 use Rattle.rules.specs.Codes.{differ}
 use Rattle.rules.specs.Views.{element_at}
-use Rattle.rules.proofs.Found.{none_lowest}
-use Rattle.rules.proofs.Loops.{lowest_at}
+use Rattle.rules.proofs.Loops.{lowest_found}
 use Rattle.mending.specs.Stored.{stored}
 use Rattle.mending.specs.Puts.{weighted_sum}
 use Rattle.mending.proofs.first_difference.Goals as goal
 
-pub returns-then-not-equals : goal.returns-then-not-equals
-returns-then-not-equals g c =
-    let F = g.S.Symbol.Field.algebra in
-    let meaning = g.S.Symbol.Field.meaning in
-    let held = g.S.Shelf.contents c.args.shelf.now in
-    let test : ℕ → Bool = λ t. differ F (weighted_sum F meaning held (stored F c.args.weights.now) c.args.rows t) (element_at F meaning held c.args.row t) in
-    let hit : test c.loop-place.place ≡ true =
-    ap not (ap₂ eqb (ap F.number (sym c.weighted-worked.ensures)) (ap F.number (sym c.symbol_at.ensures)) ∙ sym c.equals.ensures ∙ c.if-not-equals.true) in
-    sym (lowest_at c.args.block_length test c.loop-place.place c.loop-place-test.true hit c.loop-place.invariant)
-
 pub returns : goal.returns
-returns g c =
+returns g c few =
     let F = g.S.Symbol.Field.algebra in
     let meaning = g.S.Symbol.Field.meaning in
-    let held = g.S.Shelf.contents c.args.shelf.now in
-    let test : ℕ → Bool = λ t. differ F (weighted_sum F meaning held (stored F c.args.weights.now) c.args.rows t) (element_at F meaning held c.args.row t) in
-    sym (none_lowest c.args.block_length test (λ t h. c.loop-place.invariant t (omega arith)))
+    let sizes = c.args.group.now.sizes in
+    let held = g.S.Shelf.contents c.args.group.now.shelf in
+    let test : ℕ → Bool = λ place. differ F (weighted_sum F meaning held (stored F c.args.weights.now) (sizes.data_rows + sizes.parity_rows) place) (element_at F meaning held c.args.row place) in
+    lowest_found sizes.block_length test c.find.result
+    (first_from_Range _ _ _ c.find.result (λ place. place < sizes.block_length → test place ≡ true) (λ place. place < sizes.block_length → test place ≡ false) c.find.ensures.ran
+    (λ x q k. search (rules, tests)) (λ x q k. search (rules, tests)))

@@ -1,7 +1,7 @@
 use Rattle.std.proofs.Common.{◌+◌, length, sym, ap, ◌∙◌, subst₂, arith, length-set}
 use Rattle.rules.specs.Calls.{is_sound}
 use Rattle.rules.specs.States.{sound}
-use Rattle.rules.specs.Views.{seen}
+use Rattle.rows.specs.Shown.{shown}
 use Rattle.rules.proofs.Rows.{fitting}
 use Rattle.mending.proofs.Gathering.{Listed, listed_sound, listed_unsound, listed_past, listed_all}
 use Rattle.mending.proofs.gather.Goals as goal
@@ -10,7 +10,7 @@ use Rattle.mending.proofs.gather.Goals.{then-not-is_sound, then-count-lt4, else-
 pub loop-row-preserved : goal.loop-row-preserved
 loop-row-preserved g c =
     let F = g.S.Symbol.Field.algebra in
-    let s = seen g.S.Symbol.Field.meaning c.args.sizes (g.S.Shelf.contents c.args.shelf.now) in
+    let s = shown g.S.Shelf.contents g.S.Symbol.Field.meaning c.args.group.now in
     let row = c.loop-row.row in
     let inv = c.loop-row.invariant in
     elim c.if-not-is_sound.branch [
@@ -42,6 +42,6 @@ loop-row-preserved g c =
 pub returns : goal.returns
 returns g c fit =
     let F = g.S.Symbol.Field.algebra in
-    let s = seen g.S.Symbol.Field.meaning c.args.sizes (g.S.Shelf.contents c.args.shelf.now) in
+    let s = shown g.S.Shelf.contents g.S.Symbol.Field.meaning c.args.group.now in
     let f = fitting F s fit in
-    listed_all F s _ c.loop-row.row (omega (arith, c.saturating_add-row-end.ensures, f.k_high, f.p_high)) (c.loop-row.invariant.listed fit)
+    listed_all F s _ c.loop-row.row (omega (arith, c.rows-row-end.ensures, f.k_high, f.p_high)) (c.loop-row.invariant.listed fit)

@@ -1,16 +1,21 @@
-use Rattle.std.proofs.Common.{sym, subst, arith}
+use Rattle.std.proofs.Common.{sym, subst}
 use Rattle.rows.specs.Cards.{Holds}
 use Rattle.mending.specs.Stored.{stored}
 use Rattle.mending.specs.Puts.{block_cells}
-use Rattle.mending.proofs.Putting.{block_more, no_overflow}
+use Rattle.mending.proofs.Putting.{block_more}
 use Rattle.mending.proofs.put_block.Goals as goal
 
 pub loop-place-preserved : goal.loop-place-preserved
-loop-place-preserved g c h =
+loop-place-preserved g c =
     let F = g.S.Symbol.Field.algebra in
     let meaning = g.S.Symbol.Field.meaning in
-    let before = g.S.Shelf.contents c.args.shelf.now in
-    let now = g.S.Shelf.contents c.loop-place.shelf in
-    subst (Holds F meaning c.args.sizes before (block_cells F meaning c.args.sizes (stored F c.args.weights.now) c.args.row before _)) (sym c.put.ensures.after)
-    (block_more F meaning c.args.sizes before (stored F c.args.weights.now) c.args.row c.loop-place.place c.saturating_add-rows.result now c.weighted-symbol.result h c.loop-place-test.true
-    (λ fit. omega (arith, c.saturating_add-rows.ensures, no_overflow F meaning c.args.sizes before fit)) (c.loop-place.invariant h) c.weighted-symbol.ensures)
+    let sizes = c.args.group.now.sizes in
+    let before = g.S.Shelf.contents c.args.group.now.shelf in
+    let now = g.S.Shelf.contents c.loop-place.group.shelf in
+    let same = c.loop-place.invariant.same_sizes in
+    let weights = stored F c.args.weights.now in record {
+      same_sizes = same;
+      held = λ h.
+          subst (Holds F meaning sizes before (block_cells F meaning sizes weights c.args.row before _)) (sym c.put.ensures.after)
+          (block_more F meaning sizes before weights c.args.row c.loop-place.place now c.weighted-symbol.result h c.loop-place-test.true (c.loop-place.invariant.held h) (λ few. (rw same at c.weighted-symbol.ensures) few));
+    }

@@ -2,7 +2,11 @@ use Rattle.mending.specs.Stored.{stored}
 use Rattle.mending.proofs.Putting.{row_put}
 use Rattle.mending.proofs.put_row.Goals as goal
 
-pub returns : goal.returns
-returns g c h =
-    row_put g.S.Symbol.Field.algebra g.S.Symbol.Field.meaning c.args.sizes (g.S.Shelf.contents c.args.shelf.now) (stored g.S.Symbol.Field.algebra c.args.weights.now) c.args.row
-    (g.S.Shelf.contents c.put_block.new.shelf) (g.S.Shelf.contents c.put_card.new.shelf) h (c.put_block.ensures h) (c.put_card.ensures h)
+pub returns-clause-cells : goal.returns-clause-cells
+returns-clause-cells g c h =
+    let F = g.S.Symbol.Field.algebra in
+    let meaning = g.S.Symbol.Field.meaning in
+    let sizes = c.args.group.now.sizes in
+    let same = c.put_block.ensures.sizes in
+    row_put F meaning sizes (g.S.Shelf.contents c.args.group.now.shelf) (stored F c.args.weights.now) c.args.row (g.S.Shelf.contents c.put_block.new.group.shelf) (g.S.Shelf.contents c.put_card.new.self.shelf) h
+    (c.put_block.ensures.block h) ((rw same at c.put_card.ensures.cards) h)

@@ -10,7 +10,7 @@ pub loop-row-preserved : goal.loop-row-preserved
 loop-row-preserved g c =
     let F = g.S.Symbol.Field.algebra in
     let meaning = g.S.Symbol.Field.meaning in
-    let held = g.S.Shelf.contents c.args.shelf.now in
+    let held = g.S.Shelf.contents c.args.group.now.shelf in
     let row = c.loop-row.row in
     let weights : ℕ → _ = stored F c.args.weights.now in
     let symbols : ℕ → _ = λ r. element_at F meaning held r c.args.place in

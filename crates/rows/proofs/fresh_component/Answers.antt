@@ -1,14 +1,8 @@
-use Rattle.std.proofs.Common.{◌≡◌, sym, ap, ◌∙◌, ap₂, arith}
+use Rattle.std.proofs.Common.{◌∙◌, ap₂, arith}
 use Rattle.rules.specs.Codes.{base}
 use Rattle.rules.specs.Views.{element_at}
-use Rattle.rows.proofs.Horner.{part, part_none, part_more, part_all}
+use Rattle.rows.proofs.Horner.{part_more}
 use Rattle.rows.proofs.fresh_component.Goals as goal
-
-pub loop-place-init : goal.loop-place-init
-loop-place-init g c =
-    let F = g.S.Symbol.Field.algebra in
-    let f = element_at F g.S.Symbol.Field.meaning (g.S.Shelf.contents c.args.shelf.now) c.args.row in
-    c.zero-sum.ensures ∙ sym (part_none F c.args.block_length f (base F c.args.index))
 
 pub loop-place-preserved : goal.loop-place-preserved
 loop-place-preserved g c =
@@ -17,10 +11,3 @@ loop-place-preserved g c =
     c.sum-sum.ensures
     ∙ ap₂ F.add c.symbol_at.ensures (c.product.ensures ∙ ap₂ F.mul c.power_of_alpha-point.ensures c.loop-place.invariant)
     ∙ part_more F c.args.block_length f (base F c.args.index) c.loop-place.place (omega arith) (omega arith)
-
-pub returns : goal.returns
-returns g c =
-    let F = g.S.Symbol.Field.algebra in
-    let f = element_at F g.S.Symbol.Field.meaning (g.S.Shelf.contents c.args.shelf.now) c.args.row in
-    let p = part F c.args.block_length f (base F c.args.index) in
-    c.loop-place.invariant ∙ (let end : c.loop-place.place ≡ 0 = omega arith in ap p end) ∙ part_all F c.args.block_length f (base F c.args.index)

@@ -1,18 +1,12 @@
-use Rattle.std.proofs.Common.{ℕ, Bool, sym, arith}
-use Rattle.rules.proofs.Found.{none_lowest}
-use Rattle.rules.proofs.Loops.{lowest_at}
+use Rattle.std.proofs.Common.{◌≡◌, ℕ, ◌<◌, Bool, true, false, rules, tests}
+use Rattle.std.proofs.lemmas.Iterator.{first_from_Range}
+use Rattle.rules.proofs.Loops.{lowest_found}
 use Rattle.shelves.specs.Contents.{is_hole}
-use Rattle.rows.proofs.Reading.{read_none}
 use Rattle.rows.proofs.lowest_hole.Goals as goal
 
 pub returns : goal.returns
 returns g c =
-    let test : ℕ → Bool = λ t. is_hole ((g.S.Shelf.contents c.args.shelf.now).at c.args.row t) in
-    sym (none_lowest c.args.places test (λ t l. c.loop-place.invariant t (omega arith)))
-
-pub returns-in_default : goal.returns-in_default
-returns-in_default g c =
-    let held = g.S.Shelf.contents c.args.shelf.now in
-    let test : ℕ → Bool = λ t. is_hole (held.at c.args.row t) in
-    sym (lowest_at c.args.places test c.loop-place.place c.loop-place-test.true
-    (read_none held c.args.row c.loop-place.place c.get.result c.get.ensures c.in_default.not-Symbol) c.loop-place.invariant)
+    let test : ℕ → Bool = λ place. is_hole ((g.S.Shelf.contents c.args.shelf.now).at c.args.row place) in
+    lowest_found c.args.places test c.find.result
+    (first_from_Range _ _ _ c.find.result (λ place. place < c.args.places → test place ≡ true) (λ place. place < c.args.places → test place ≡ false) c.find.ensures.ran
+    (λ x q k. search (rules, tests)) (λ x q k. search (rules, tests)))

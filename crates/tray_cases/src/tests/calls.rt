@@ -1,5 +1,5 @@
 // Tests of audit, read and cross on sound trays, and of the refusals that these calls share.
-use super::{EXAMPLE, MARKS, example, sizes};
+use super::{EXAMPLE, MARKS, delivered, example, sizes};
 use byte_field::Byte;
 use rules::{Refusal, Verdict};
 use shelves::ArrayShelf;
@@ -18,23 +18,27 @@ fn every_row_is_sound_once_taken_in(rt: HostRuntime) {
     assert_eq!(rt; tray.cross(), Ok(()));
 }
 
+// Why each call that looks at the tray first is refused; row 9 is none of its rows.
+fn refusals<'a>(tray: &mut Tray<ArrayShelf<'a, Byte>>) -> [Option<Refusal>; 9] {
+    [
+        tray.audit(9).err(),
+        tray.read(9, 0, &mut []).err(),
+        tray.write(9, 0, &[]).err(),
+        tray.cross().err(),
+        tray.begin().err(),
+        tray.step().err(),
+        tray.totals().err(),
+        tray.record(9).err(),
+        tray.first().err(),
+    ]
+}
+
 #[test]
 fn calls_before_intake(rt: HostRuntime) {
     let mut symbols = EXAMPLE;
     let mut marks = MARKS;
-    let mut tray = Tray::over(
-        ArrayShelf::over(4, 5, &mut symbols, &mut marks),
-        sizes(2, 2, 3, 2),
-    );
-    assert_eq!(rt; tray.audit(9), Err(Refusal::NotTakenIn));
-    assert_eq!(rt; tray.read(9, 0, &mut []), Err(Refusal::NotTakenIn));
-    assert_eq!(rt; tray.write(9, 0, &[]), Err(Refusal::NotTakenIn));
-    assert_eq!(rt; tray.cross(), Err(Refusal::NotTakenIn));
-    assert_eq!(rt; tray.begin(), Err(Refusal::NotTakenIn));
-    assert_eq!(rt; tray.step(), Err(Refusal::NotTakenIn));
-    assert_eq!(rt; tray.totals(), Err(Refusal::NotTakenIn));
-    assert_eq!(rt; tray.record(9), Err(Refusal::NotTakenIn));
-    assert_eq!(rt; tray.first(), Err(Refusal::NotTakenIn));
+    let mut tray = delivered(&mut symbols, &mut marks);
+    assert_eq!(rt; refusals(&mut tray), [Some(Refusal::NotTakenIn); 9]);
     assert_eq!(rt; tray.fit(), Ok(()));
 }
 
@@ -47,15 +51,7 @@ fn calls_on_a_tray_that_does_not_fit(rt: HostRuntime) {
         sizes(2, 2, 2, 2),
     );
     assert_eq!(rt; tray.intake(), Err(Refusal::DoesNotFit));
-    assert_eq!(rt; tray.audit(9), Err(Refusal::DoesNotFit));
-    assert_eq!(rt; tray.read(9, 0, &mut []), Err(Refusal::DoesNotFit));
-    assert_eq!(rt; tray.write(9, 0, &[]), Err(Refusal::DoesNotFit));
-    assert_eq!(rt; tray.cross(), Err(Refusal::DoesNotFit));
-    assert_eq!(rt; tray.begin(), Err(Refusal::DoesNotFit));
-    assert_eq!(rt; tray.step(), Err(Refusal::DoesNotFit));
-    assert_eq!(rt; tray.totals(), Err(Refusal::DoesNotFit));
-    assert_eq!(rt; tray.record(9), Err(Refusal::DoesNotFit));
-    assert_eq!(rt; tray.first(), Err(Refusal::DoesNotFit));
+    assert_eq!(rt; refusals(&mut tray), [Some(Refusal::DoesNotFit); 9]);
 }
 
 #[test]

@@ -1,14 +1,10 @@
 // Tests of write: what stands on the shelf afterwards, worked out by hand from the rules of cards and parity.
-use super::{EXAMPLE, MARKS, example, numbers, sizes};
+use super::{EXAMPLE, MARKS, STOCKED, example, numbers, sizes};
 use byte_field::Byte;
 use counter_field::Counter;
 use rules::{Refusal, Verdict};
 use shelves::ArrayShelf;
 use tray::Tray;
-
-const STOCKED: [usize; 20] = [
-    1, 2, 3, 0, 9, 4, 0, 0, 4, 4, 5, 2, 3, 4, 13, 163, 81, 247, 5, 250,
-];
 
 #[test]
 fn a_write_moves_its_row_and_the_parity_rows(rt: HostRuntime) {

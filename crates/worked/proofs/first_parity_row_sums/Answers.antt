@@ -1,8 +1,5 @@
-use Rattle.rules.proofs.Parity.{first_row_ones, first_row_sums}
+use Rattle.rules.proofs.Parity.{first_row_sums}
 use Rattle.worked.proofs.first_parity_row_sums.Goals as goal
-
-pub returns-clause-ones : goal.returns-clause-ones
-returns-clause-ones c q F = first_row_ones F
 
 pub returns-clause-sums : goal.returns-clause-sums
 returns-clause-sums c q F = first_row_sums F

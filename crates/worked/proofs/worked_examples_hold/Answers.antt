@@ -1,11 +1,9 @@
 use mathlib.Core.Path.{refl}
-use Rattle.algebra.specs.Modular.{inverse_by}
-use Rattle.algebra.specs.Polynomial.{polynomial_product, product_of_bits, remainder}
-use Rattle.byte_field.specs.Product.{◌·◌, squares, inverse}
+use Rattle.worked.proofs.Computing.{computing}
 use Rattle.worked.proofs.worked_examples_hold.Goals as goal
 
 pub returns : goal.returns
-unfolding ◌·◌ squares inverse polynomial_product product_of_bits remainder inverse_by
+unfolding computing
 returns c = record {
   byte_2_by_128 = refl;
   byte_5_by_166 = refl;

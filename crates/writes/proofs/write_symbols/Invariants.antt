@@ -1,16 +1,21 @@
-use Rattle.std.proofs.Common.{◌+◌, ◌≤◌, length, take}
+use Rattle.std.proofs.Common.{◌≡◌, ◌+◌, ◌^◌, ◌<◌, ◌≤◌, length, take}
 use Rattle.std.specs.Prelude.{map}
+use Rattle.rows.specs.Shown.{shown}
 use Rattle.rules.specs.Updates.{written}
-use Rattle.rules.specs.Views.{seen}
 use Rattle.writes.specs.Steps.{Puts, Writable, cells_of}
-use Rattle.writes.specs.Weights.{PowersAt}
 use Rattle.writes.proofs.write_symbols.Given as goal
 
-abbrev pub invariant-loop-i : goal.invariant-loop-i
-invariant-loop-i g l =
+abbrev pub invariant-loop-symbol : goal.invariant-loop-symbol
+invariant-loop-symbol g l =
     let F = g.S.Symbol.Field.algebra in
     let meaning = g.S.Symbol.Field.meaning in
-    let before = g.S.Shelf.contents l.initial.shelf in
-    (l.sizes.card_length ≤ 8 → PowersAt F l.sizes.card_length (l.start + l.i) l.powers)
-    × Puts meaning (Writable F meaning l.sizes before l.row × (l.start + length l.symbols ≤ l.sizes.block_length))
-    (written F (seen meaning l.sizes before) l.row l.start (map meaning (take l.i l.symbols)) (cells_of meaning before)) before (g.S.Shelf.contents l.shelf)
+    let sizes = l.initial.group.sizes in
+    let before = g.S.Shelf.contents l.initial.group.shelf in
+    let i = l.symbol-index in
+    record {
+      same_sizes : l.group.sizes ≡ sizes;
+      card : l.place.card_length ≡ sizes.card_length;
+      at : l.start + i < 2 ^ 64 → l.place.index ≡ l.start + i;
+      held : Puts meaning (Writable F meaning sizes before l.row × (l.start + length l.symbols ≤ sizes.block_length))
+          (written F (shown g.S.Shelf.contents meaning l.initial.group) l.row l.start (map meaning (take i l.symbols)) (cells_of meaning before)) before (g.S.Shelf.contents l.group.shelf);
+    }

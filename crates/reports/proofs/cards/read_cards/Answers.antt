@@ -1,15 +1,15 @@
-use Rattle.std.proofs.Common.{refl, arith}
+use Rattle.std.proofs.Common.{rules, ◌≡◌, ◌+◌, arith}
 use Rattle.rules.specs.Views.{seen}
-use Rattle.reports.proofs.Listing.{none_set}
-use Rattle.reports.proofs.Taking.{blank, all_cards}
+use Rattle.rules.specs.States.{k, p}
+use Rattle.reports.proofs.Listing.{listed_by}
+use Rattle.reports.proofs.Taking.{blank, card_of, no_card}
 use Rattle.reports.proofs.cards.read_cards.Goals as goal
-
-pub loop-row-init : goal.loop-row-init
-loop-row-init g c = (refl, λ k p n m j. none_set 68 blank j _)
 
 pub returns : goal.returns
 returns g c few parities short components =
+    let F = g.S.Symbol.Field.algebra in
     let s = seen g.S.Symbol.Field.meaning c.args.sizes (g.S.Shelf.contents c.args.shelf.now) in
-    all_cards g.S.Symbol.Field.algebra s c.saturating_add-rows.result c.loop-row.row c.loop-row.cards
-    (omega (arith, c.saturating_add-rows.ensures)) (omega (arith, c.saturating_add-rows.ensures, c.min-row-end.ensures, c.loop-row-test.false))
-    c.loop-row.invariant.0 (c.loop-row.invariant.1 few parities short components)
+    let rows : c.rows-rows.result ≡ k s + p s = omega (arith, c.rows-rows.ensures) in
+    let cards = listed_by _ (card_of F s) _ (λ row card f k.
+    (search (rules, rows, no_card F s row), search rules)) blank c.from_fn.result 68 c.from_fn.ensures.items in
+    λ i. record { rows = rows i; components = c.args.sizes.card_length; cards = cards i }

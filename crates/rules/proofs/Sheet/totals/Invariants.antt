@@ -1,4 +1,4 @@
-use Rattle.std.proofs.Common.{◌≡◌, ℕ, not}
+use Rattle.std.proofs.Common.{◌≡◌, not}
 use Rattle.rules.specs.Search.{counted}
 use Rattle.rules.specs.Updates.{entry_at}
 use Rattle.rules.specs.Updates.{entry_sound}

@@ -37,4 +37,4 @@ returns-clause-promise g c =
     let found = c.audit-verdict.ensures c.in_ok-ready.ensures.0 in
     let small = allowed_fits F s _ _ (sym c.if-not-allows.ensures) in
     read_copied F s c.in_ok-ready.ensures.0 c.in_ok-ready.ensures.1 c.args.row c.args.start _ (omega arith) (sym c.if-not-allows.ensures) _
-    (ap is_sound (sym found) ∙ sym c.if-not-is_sound.ensures) (c.copy_span.ensures (omega (arith, small)) c.args.self.now.sizes)
+    (ap is_sound (sym found) ∙ sym c.if-not-is_sound.ensures) (c.copy_span.ensures (omega (arith, small)) c.args.self.now.group.sizes)

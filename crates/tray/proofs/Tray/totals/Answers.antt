@@ -2,7 +2,6 @@ use Rattle.std.proofs.Common.{sym, ◌∙◌}
 use Rattle.std.proofs.lemmas.Result.{err_from_is_err_and}
 use Rattle.tray.specs.State.{state}
 use Rattle.tray.proofs.Answering.{row_count, totals_refused, totals_counted}
-use Rattle.rules.proofs.Rounds.{round_exact}
 use Rattle.tray.proofs.Tray.totals.Goals as goal
 
 pub returns-in_err-walked-clause-promise : goal.returns-in_err-walked-clause-promise
@@ -19,12 +18,3 @@ returns-clause-promise g c =
     let all = row_count F s c.in_ok-ready.ensures.0 c.rows-rows.ensures in
     totals_counted F s c.in_ok-ready.ensures.0 c.in_ok-ready.ensures.1 c.rows-rows.result c.act.new.self c.in_ok-walked.walked c.totals.result
     (sym c.act.ensures.answer ∙ c.in_ok-walked.was) c.act.ensures.after all c.totals.ensures.sound c.totals.ensures.others
-
-pub returns-in_err-ready-clause-round : goal.returns-in_err-ready-clause-round
-returns-in_err-ready-clause-round g c = round_exact g.S.Symbol.Field.algebra
-
-pub returns-in_err-walked-clause-round : goal.returns-in_err-walked-clause-round
-returns-in_err-walked-clause-round g c = round_exact g.S.Symbol.Field.algebra
-
-pub returns-clause-round : goal.returns-clause-round
-returns-clause-round g c = round_exact g.S.Symbol.Field.algebra

@@ -7,7 +7,6 @@ use Rattle.rules.proofs.Found.{lowest_some}
 use Rattle.rules.proofs.Rows.{fitting}
 use Rattle.tray.specs.State.{state}
 use Rattle.tray.proofs.Answering.{write_no_row, write_long, write_unsound, write_unsound_parity, write_written, mapped_span, allowed_fits, found_with, none_with, sound_writable}
-use Rattle.rules.proofs.Writes.{write_exact}
 use Rattle.tray.proofs.Tray.write.Goals as goal
 
 pub returns-then-row-self-clause-promise : goal.returns-then-row-self-clause-promise
@@ -48,25 +47,8 @@ returns-clause-promise g c =
     let found = c.audit-verdict.ensures c.in_ok-ready.ensures.0 in
     let whole : sound F s c.args.row ≡ true = ap is_sound (sym found) ∙ sym c.if-not-is_sound.ensures in
     let none = none_with (λ i. audited F s (k s + i)) _ (sym (c.first_unsound_parity.ensures c.in_ok-ready.ensures.0) ∙ c.in_default.is) in
-    let writable = sound_writable F g.S.Symbol.Field.meaning c.args.self.now.sizes (g.S.Shelf.contents c.args.self.now.shelf) c.in_ok-ready.ensures.0 c.args.row c.if-row-self.false whole none in
+    let writable = sound_writable F g.S.Symbol.Field.meaning c.args.self.now.group.sizes (g.S.Shelf.contents c.args.self.now.group.shelf) c.in_ok-ready.ensures.0 c.args.row c.if-row-self.false whole none in
     let room = allowed_fits F s c.args.start (length c.args.symbols.now) (sym c.if-not-allows.ensures) in
-    write_written F s c.in_ok-ready.ensures.0 c.in_ok-ready.ensures.1 c.args.row c.args.start (map g.S.Symbol.Field.meaning c.args.symbols.now) c.if-row-self.false (mapped_span F s g.S.Symbol.Field.meaning c.args.start c.args.symbols.now ∙ sym c.if-not-allows.ensures) whole none _
-    (c.write_symbols.ensures.symbols writable (omega (arith, room, length-map c.args.symbols.now g.S.Symbol.Field.meaning)))
-
-pub returns-in_err-ready-clause-exact : goal.returns-in_err-ready-clause-exact
-returns-in_err-ready-clause-exact g c = write_exact g.S.Symbol.Field.algebra
-
-pub returns-then-row-self-clause-exact : goal.returns-then-row-self-clause-exact
-returns-then-row-self-clause-exact g c = write_exact g.S.Symbol.Field.algebra
-
-pub returns-then-not-allows-clause-exact : goal.returns-then-not-allows-clause-exact
-returns-then-not-allows-clause-exact g c = write_exact g.S.Symbol.Field.algebra
-
-pub returns-then-not-is_sound-clause-exact : goal.returns-then-not-is_sound-clause-exact
-returns-then-not-is_sound-clause-exact g c = write_exact g.S.Symbol.Field.algebra
-
-pub returns-in-Some-clause-exact : goal.returns-in-Some-clause-exact
-returns-in-Some-clause-exact g c = write_exact g.S.Symbol.Field.algebra
-
-pub returns-clause-exact : goal.returns-clause-exact
-returns-clause-exact g c = write_exact g.S.Symbol.Field.algebra
+    rw c.write_symbols.ensures.sizes
+    (write_written F s c.in_ok-ready.ensures.0 c.in_ok-ready.ensures.1 c.args.row c.args.start (map g.S.Symbol.Field.meaning c.args.symbols.now) c.if-row-self.false (mapped_span F s g.S.Symbol.Field.meaning c.args.start c.args.symbols.now ∙ sym c.if-not-allows.ensures) whole none _
+    (c.write_symbols.ensures.written.symbols writable (omega (arith, room, length-map c.args.symbols.now g.S.Symbol.Field.meaning))))

@@ -1,0 +1,14 @@
+use Rattle.std.proofs.Common.{◌≡◌, ◌+◌, ◌<◌}
+use Rattle.rows.specs.Cards.{Holds, partly}
+use Rattle.rows.proofs.Group.put_card.Given as goal
+
+abbrev pub invariant-loop-index : goal.invariant-loop-index
+invariant-loop-index g l =
+    let F = g.S.Symbol.Field.algebra in
+    let meaning = g.S.Symbol.Field.meaning in
+    let sizes = l.initial.self.sizes in
+    let before = g.S.Shelf.contents l.initial.self.shelf in
+    record {
+      same_sizes : l.self.sizes ≡ sizes;
+      held : l.row < sizes.data_rows + sizes.parity_rows → Holds F meaning sizes before (partly F meaning sizes before l.row l.index) (g.S.Shelf.contents l.self.shelf);
+    }
