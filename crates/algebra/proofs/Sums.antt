@@ -4,7 +4,7 @@ use mathlib.Core.Path.{fun_ext}
 use native.Mathlib.Decide.{ℕ_discrete}
 use Rattle.algebra.specs.Algebra.{Field}
 use Rattle.algebra.specs.Sum.{sum_to}
-use Rattle.algebra.proofs.Ring.{ring, add_assoc, add_right_comm, add_cancel, add-sub, sub-add, zero-add, mul-add}
+use Rattle.algebra.proofs.Ring.{ring, add_assoc, add_right_comm, add_cancel, sub-add, zero-add, mul-add}
 
 module _ {A : Type 0} (F : Field A) where
   infixl 60 ◌⊕◌
@@ -46,10 +46,6 @@ module _ {A : Type 0} (F : Field A) where
 
   pub sum_one : (n : ℕ) (f : ℕ → A) (t : ℕ) → t < n → ((i : ℕ) → i < n → i ≢ t → f i ≡ 𝟘) → sum_to F n f ≡ f t
   sum_one n f t h e = simp (sum-zero n, ring) at (sum_update n f (λ _. 𝟘) t h e)
-
-  -- the same with a difference
-  pub sum_change : (n : ℕ) (f g : ℕ → A) (t : ℕ) → t < n → ((i : ℕ) → i < n → i ≢ t → f i ≡ g i) → sum_to F n g ≡ sum_to F n f ⊕ (g t ⊕ neg (f t))
-  sum_change n f g t h e = sym (add-sub F _ (f t)) ∙ rw (← (sum_update n f g t h e)) (add_assoc F _ _ _)
 
   -- Equal sums with weights w: the differences sum to zero.
   pub sum_same : (n : ℕ) (w f g : ℕ → A) → sum_to F n (λ i. w i ⊙ f i) ≡ sum_to F n (λ i. w i ⊙ g i) → sum_to F n (λ i. w i ⊙ (f i ⊕ neg (g i))) ≡ 𝟘

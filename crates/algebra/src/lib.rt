@@ -5,7 +5,7 @@ ghost use Rattle.std.specs.Prelude.{◌≡◌, ℕ, ◌^◌, ◌≤◌, length, 
 ghost use Rattle.std.specs.Option.{option_map};
 ghost use Rattle.algebra.specs.Algebra.{Field as Algebra, minus, numbered, power};
 ghost use Rattle.algebra.specs.Below.{Below};
-ghost use Rattle.algebra.specs.Code.{code, coded, decoded};
+ghost use Rattle.algebra.specs.Code.{code, coded, decoded, encode_answer};
 ghost use Rattle.algebra.specs.Theorems.{SignaturesFindChanges, ExactlyOneSolution};
 
 // A field's symbols, by the elements that they mean: a symbol is what a program holds, and an element is one of the
@@ -76,11 +76,12 @@ pub fn power_of_alpha<F: Field>(exponent: usize) -> F
 }
 
 // Writes a number in as many bytes as there are, the highest first. What does not fit is left out.
+#[tactic(auto, using(std::proofs::lemmas::Grind::common_steps, crate::proofs::Codes::one_more))]
 pub fn write_code(number: usize, into: &mut [u8])
     ensures { into.new ≡ code (length into.old) number }
 {
     let mut rest = number;
-    // By index: nothing is known of what a walk over `iter_mut().rev()` has written, so that it could not be proved.
+    // By index: nothing is known of what a walk over `iter_mut().rev()` has written, so that it could not be proved, and `to_be_bytes` has always eight bytes.
     for i in (0..into.len()).rev() {
         into[i] = (rest % 256) as u8;
         rest /= 256;
@@ -101,6 +102,10 @@ pub fn read_code(from: &[u8]) -> Option<usize>
     Some(number)
 }
 
+// Why a code was not written: the bytes are not as many as a code has.
+#[derive(Clone, Copy, PartialEq, Eq, Debug)]
+pub struct WrongLength;
+
 // A field whose elements have a byte code: their numbers in so many bytes, the highest first.
 pub trait CodedField: Field {
     // The bytes of a code, and the number that names the field in an image.
@@ -118,23 +123,16 @@ pub trait CodedField: Field {
     fn field_number() -> u8
         ensures { result ≡ kind };
 
-    // The number that the code holds. No other symbol has it, so that what was written reads back as it was.
-    fn code_number(self) -> usize
-        ensures value { result ≡ Self.Field.algebra.number (Self.Field.meaning self) }
-        ensures own { Self.Field.symbol result ≡ self };
-
-    // Writes the code. Bytes of another length than the code's are left alone, and the answer is false.
-    fn encode(self, into: &mut [u8]) -> bool
-        ensures answer { result ≡ (length into.old == width) }
-        ensures own { Self.Field.symbol (Self.Field.algebra.number (Self.Field.meaning self)) ≡ self }
+    // Writes the code. Bytes of another length than the code's are refused and left alone.
+    fn encode(self, into: &mut [u8]) -> Result<(), WrongLength>
+        ensures answer { result ≡ encode_answer width (length into.old) }
         ensures after { into.new ≡ (if nat_eq (length into.old) width then code width (Self.Field.algebra.number (Self.Field.meaning self)) else into.old) }
     {
-        let number = self.code_number();
         if into.len() != Self::code_width() {
-            return false;
+            return Err(WrongLength);
         }
-        write_code(number, into);
-        true
+        write_code(self.number(), into);
+        Ok(())
     }
 
     // The element that the bytes code, where they code one.
@@ -147,6 +145,14 @@ pub trait CodedField: Field {
         }
         Self::numbered(read_code(from)?)
     }
+}
+
+// A coded field with one symbol for each element, so that a symbol that was written reads back as it was.
+pub trait OwnSymbols: CodedField {
+    // The number of this symbol, which no other symbol has.
+    fn code_number(self) -> usize
+        ensures value { result ≡ Self.Field.algebra.number (Self.Field.meaning self) }
+        ensures own { Self.Field.symbol result ≡ self };
 }
 
 // Signatures over the first powers of alpha find as many changed symbols as there are signatures, over every field.

@@ -5,7 +5,7 @@ ghost use Rattle.std.specs.Prelude.{◌≡◌};
 ghost use Rattle.byte_field.specs.Product.{◌·◌, by_x, inverse};
 ghost use Rattle.byte_field.specs.Meaning.{byte_algebra, byte_meaning, byte_symbol};
 
-use algebra::{CodedField, Field};
+use algebra::{CodedField, Field, OwnSymbols};
 
 const WIDTH: usize = 1;
 
@@ -23,6 +23,7 @@ fn doubled(a: u8) -> u8
 }
 
 // The product, from the highest bit of b down.
+#[tactic(auto, using(crate::proofs::Steps::with_bit, crate::proofs::Steps::without_bit, crate::proofs::Steps::none_yet))]
 fn multiplied(a: u8, b: u8) -> u8
     ensures { result ≡ a · b }
 {
@@ -37,6 +38,7 @@ fn multiplied(a: u8, b: u8) -> u8
 }
 
 // The power 254, as the product of seven squares.
+#[tactic(auto, using(crate::proofs::Steps::one_square, crate::proofs::Steps::no_squares, crate::proofs::Steps::all_squares))]
 fn inverted(a: u8) -> u8
     ensures { result ≡ inverse a }
 {
@@ -120,7 +122,9 @@ impl CodedField for Byte {
     fn field_number() -> u8 {
         FIELD_NUMBER
     }
+}
 
+impl OwnSymbols for Byte {
     fn code_number(self) -> usize {
         self.number()
     }

@@ -1,4 +1,5 @@
 use super::*;
+use algebra::WrongLength;
 
 #[test]
 fn zero_one_and_the_largest(rt: HostRuntime) {
@@ -24,11 +25,11 @@ fn numbers_and_codes(rt: HostRuntime) {
     assert_eq!(rt; Byte(29).number(), 29);
     assert!(rt; Byte(7).equals(Byte(7)) && !Byte(7).equals(Byte(6)));
     let mut code = [0u8; 1];
-    assert!(rt; Byte(163).encode(&mut code));
+    assert_eq!(rt; Byte(163).encode(&mut code), Ok(()));
     assert_eq!(rt; code[0], 163);
     assert_eq!(rt; <Byte as CodedField>::decode(&code), Some(Byte(163)));
     let mut other = [9u8; 2];
-    assert!(rt; !Byte(163).encode(&mut other));
+    assert_eq!(rt; Byte(163).encode(&mut other), Err(WrongLength));
     assert_eq!(rt; other[0], 9);
     assert_eq!(rt; <Byte as CodedField>::decode(&other), None);
 }

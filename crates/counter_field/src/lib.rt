@@ -5,7 +5,7 @@ ghost use Rattle.std.specs.Prelude.{◌≡◌, ◌%◌, ◌<◌};
 ghost use Rattle.algebra.specs.Modular.{modular_inverse};
 ghost use Rattle.counter_field.specs.Meaning.{counter_algebra, counter_meaning, counter_number, counter_symbol};
 
-use algebra::{CodedField, Field};
+use algebra::{CodedField, Field, OwnSymbols};
 
 const WIDTH: usize = 3;
 
@@ -116,7 +116,9 @@ impl CodedField for Counter {
     fn field_number() -> u8 {
         FIELD_NUMBER
     }
+}
 
+impl OwnSymbols for Counter {
     fn code_number(self) -> usize {
         self.number()
     }

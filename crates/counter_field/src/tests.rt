@@ -46,6 +46,6 @@ fn codes(rt: HostRuntime) {
     assert_eq!(rt; <Counter as CodedField>::decode(&[255, 255, 255]), None);
     assert_eq!(rt; <Counter as CodedField>::decode(&[1, 0]), None);
     let mut code = [9u8; 3];
-    assert!(rt; Counter::Low(258).encode(&mut code));
+    assert_eq!(rt; Counter::Low(258).encode(&mut code), Ok(()));
     assert!(rt; code[0] == 0 && code[1] == 1 && code[2] == 2);
 }

@@ -1,7 +1,7 @@
 // A call's answer as five numbers: its kind, up to three numbers that it carries, and the layer of a refusal.
 use rules::{Entry, Layer, Refusal, Verdict};
 
-// C has no enums that carry numbers, so kinds and layers have numbers here, and nowhere else.
+// C has no enums that carry numbers, so kinds and layers have their numbers here.
 pub type Answer = [usize; 5];
 
 // What an accepted call gives.

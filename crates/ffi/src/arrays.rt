@@ -2,7 +2,7 @@
 use algebra::Field;
 use rows::{coefficient_row, combination};
 use rules::Sizes;
-use shelves::{Got, Shelf};
+use shelves::Shelf;
 
 // As many places as the largest tray has: 68 rows of 4,104.
 pub const CAPACITY: usize = 279_072;
@@ -15,7 +15,7 @@ where
     let places = from.places();
     for row in 0..from.rows() {
         for place in 0..places {
-            if let Got::Symbol(symbol) = from.get(row, place) {
+            if let Some(symbol) = from.get(row, place).symbol() {
                 let _ = to.put(row, place, symbol);
             }
         }
@@ -23,6 +23,7 @@ where
 }
 
 // Writes down the numbers of one parity row's symbols, worked from the data rows.
+// Shelf and sizes side by side: with rows' `Group` here, the caller over lent memory got no proof (its borrows are not covered).
 fn parity_row<S: Shelf>(shelf: &S, sizes: Sizes, i: usize, numbers: &mut [usize])
 where
     S::Symbol: Field,

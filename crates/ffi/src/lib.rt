@@ -100,6 +100,7 @@ pub extern "C" fn tray_byte_array(
 }
 
 // Works the parity rows of an image so many times, over the image or over lent memory with its contents.
+// A bool says which of the two, since C passes no closures.
 #[unsafe(no_mangle)]
 pub extern "C" fn tray_byte_parity(
     image: &mut [u8],
@@ -149,6 +150,7 @@ pub extern "C" fn tray_counter_array(
 }
 
 // Works the parity rows of an image so many times, over the image or over lent memory with its contents.
+// A bool says which of the two, since C passes no closures.
 #[unsafe(no_mangle)]
 pub extern "C" fn tray_counter_parity(
     image: &mut [u8],

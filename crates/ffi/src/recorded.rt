@@ -7,6 +7,7 @@ use algebra::Field;
 use shelves::{Got, Outside, Shelf};
 
 // Each put is a row, a place and a number, written down where there is room. C reads how many there were beside them.
+// The room is the caller's, with a count beside it, and no Vec: there is no heap below the programs.
 #[derive(Drop)]
 pub struct Recorded<'a, S> {
     inner: S,

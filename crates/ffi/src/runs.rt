@@ -1,8 +1,10 @@
 // Scripts over trays of either field. The local buffers are the callers', since an array of a type parameter is refused.
+// An image and its tray's sizes stand side by side: with both in a struct, the functions that copy the image into lent memory got no proof (their borrows are
+// not covered).
 use crate::arrays::{copy, parity};
 use crate::recorded::Recorded;
 use crate::script::{Desk, Step, load};
-use algebra::CodedField;
+use algebra::OwnSymbols;
 use image_shelves::ImageShelf;
 use rules::Sizes;
 use shelves::{ArrayShelf, Shelf};
@@ -15,7 +17,7 @@ pub struct Memory<'a, F> {
 }
 
 // Sets a byte of the image under a tray.
-fn damage<'a, F: CodedField>(tray: &mut Tray<ImageShelf<'a, F>>, step: Step) {
+fn damage<'a, F: OwnSymbols>(tray: &mut Tray<ImageShelf<'a, F>>, step: Step) {
     let bytes = tray.replace_shelf(ImageShelf::over(&mut [])).into_bytes();
     if let Some(byte) = bytes.get_mut(step.first) {
         *byte = (step.second % 256) as u8;
@@ -23,7 +25,7 @@ fn damage<'a, F: CodedField>(tray: &mut Tray<ImageShelf<'a, F>>, step: Step) {
     let _ = tray.replace_shelf(ImageShelf::over(bytes));
 }
 
-pub(crate) fn over_image<F: CodedField>(
+pub(crate) fn over_image<F: OwnSymbols>(
     image: &mut [u8],
     sizes: Sizes,
     script: &[usize],
@@ -34,7 +36,7 @@ pub(crate) fn over_image<F: CodedField>(
 }
 
 // A shelf over lent memory with an image's contents.
-fn lent<'a, F: CodedField>(image: &ImageShelf<'_, F>, memory: Memory<'a, F>) -> ArrayShelf<'a, F> {
+fn lent<'a, F: OwnSymbols>(image: &ImageShelf<'_, F>, memory: Memory<'a, F>) -> ArrayShelf<'a, F> {
     let Memory { symbols, marks } = memory;
     let rows = image.rows();
     let places = image.places();
@@ -48,7 +50,7 @@ fn lent<'a, F: CodedField>(image: &ImageShelf<'_, F>, memory: Memory<'a, F>) -> 
 }
 
 // Runs a script over lent memory with an image's contents, and puts the symbols back into the image. Steps that damage do nothing.
-pub(crate) fn over_memory<F: CodedField>(
+pub(crate) fn over_memory<F: OwnSymbols>(
     image: &mut [u8],
     memory: Memory<'_, F>,
     sizes: Sizes,
@@ -61,7 +63,7 @@ pub(crate) fn over_memory<F: CodedField>(
     copy(&tray.into_shelf(), &mut image);
 }
 
-pub(crate) fn parity_over_image<F: CodedField>(
+pub(crate) fn parity_over_image<F: OwnSymbols>(
     image: &mut [u8],
     sizes: Sizes,
     times: usize,
@@ -70,7 +72,7 @@ pub(crate) fn parity_over_image<F: CodedField>(
     parity(&ImageShelf::<F>::over(image), sizes, times, numbers);
 }
 
-pub(crate) fn parity_over_memory<F: CodedField>(
+pub(crate) fn parity_over_memory<F: OwnSymbols>(
     image: &mut [u8],
     memory: Memory<'_, F>,
     sizes: Sizes,
@@ -82,7 +84,7 @@ pub(crate) fn parity_over_memory<F: CodedField>(
 }
 
 // Takes an image in and writes symbols of these numbers, over a shelf that writes down each put. It answers how many puts there were.
-pub(crate) fn puts<F: CodedField>(
+pub(crate) fn puts<F: OwnSymbols>(
     image: &mut [u8],
     sizes: Sizes,
     row: usize,

@@ -75,8 +75,11 @@ impl From<[usize; 4]> for Step {
 
 // Sets the symbols of numbers, and those beyond the numbers to zero.
 pub(crate) fn load<F: Field>(numbers: &[usize], symbols: &mut [F]) {
-    for (i, symbol) in symbols.iter_mut().enumerate() {
-        *symbol = rows::element(numbers.get(i).copied().unwrap_or(0));
+    let mut numbers = numbers.iter();
+    for symbol in symbols {
+        *symbol = numbers
+            .next()
+            .map_or(F::zero(), |number| rows::element(*number));
     }
 }
 

@@ -5,7 +5,7 @@ ghost use Rattle.image_shelves.specs.Fields.{Lent, Stored};
 ghost use Rattle.image_shelves.specs.Layout.{image_contents};
 
 use crate::{image_get, image_places, image_put, image_rows};
-use algebra::CodedField;
+use algebra::{CodedField, OwnSymbols};
 use byte_field::Byte;
 use counter_field::Counter;
 use shelves::{Got, Outside, Shelf};
@@ -41,7 +41,7 @@ impl<'a, F: CodedField> ImageShelf<'a, F> {
     }
 }
 
-impl<'a, F: CodedField> Shelf for ImageShelf<'a, F> {
+impl<'a, F: OwnSymbols> Shelf for ImageShelf<'a, F> {
     type Symbol = F;
 
     ghost contents = { λ s. image_contents F.CodedField.kind F.CodedField.width F.Field.algebra.size F.Field.symbol s.bytes.now };
@@ -63,6 +63,8 @@ impl<'a, F: CodedField> Shelf for ImageShelf<'a, F> {
         ensures after { image_contents F.CodedField.kind F.CodedField.width F.Field.algebra.size F.Field.symbol self.new.bytes.now ≡ after_put (image_contents F.CodedField.kind F.CodedField.width F.Field.algebra.size F.Field.symbol self.old.bytes.now) row place symbol }
         ensures stored { Stored F.CodedField.kind F.CodedField.width self.old.bytes row place (F.Field.algebra.number (F.Field.meaning symbol)) self.new.bytes }
     {
+        // Called for its promise alone: the symbol that the image then holds is the one that was given.
+        let _ = symbol.code_number();
         image_put(self.bytes, row, place, symbol)
     }
 }

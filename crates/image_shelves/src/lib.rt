@@ -1,4 +1,6 @@
-// Shelves over images in lent bytes: generic functions over any coded field, and a thin type over them for each field.
+// Shelves over images in lent bytes: generic functions over any coded field, and a thin type over them, with a name for each field.
+// The clauses name four facts of the field one by one, since a definition takes values and no traits: a trait for that term alone would be one bound more at
+// each function.
 #![tactic(auto)]
 
 ghost use Rattle.std.specs.Prelude.{◌≡◌};
@@ -79,7 +81,7 @@ pub fn image_put<F: CodedField>(
     symbol: F,
 ) -> Result<(), Outside>
     ensures answer { result ≡ put_answer (image_contents F.CodedField.kind F.CodedField.width F.Field.algebra.size F.Field.symbol bytes.old) row place }
-    ensures after { image_contents F.CodedField.kind F.CodedField.width F.Field.algebra.size F.Field.symbol bytes.new ≡ after_put (image_contents F.CodedField.kind F.CodedField.width F.Field.algebra.size F.Field.symbol bytes.old) row place symbol }
+    ensures after { image_contents F.CodedField.kind F.CodedField.width F.Field.algebra.size F.Field.symbol bytes.new ≡ after_put (image_contents F.CodedField.kind F.CodedField.width F.Field.algebra.size F.Field.symbol bytes.old) row place (F.Field.symbol (F.Field.algebra.number (F.Field.meaning symbol))) }
     ensures stored { bytes.new ≡ put_at F.CodedField.width (image_spot F.CodedField.kind F.CodedField.width bytes.old row place) (F.Field.algebra.number (F.Field.meaning symbol)) bytes.old }
 {
     let spot = find_spot::<F>(bytes, row, place).ok_or(Outside)?;

@@ -1,5 +1,5 @@
 use super::*;
-use algebra::Field;
+use algebra::{Field, OwnSymbols};
 use byte_field::Byte;
 use counter_field::Counter;
 use shelves::{ArrayShelf, Shelf};
@@ -52,7 +52,7 @@ fn counters_get_and_put(rt: HostRuntime) {
 }
 
 // The sizes of a shelf of the field over these bytes.
-fn sizes<F: CodedField>(bytes: &mut [u8]) -> (usize, usize) {
+fn sizes<F: OwnSymbols>(bytes: &mut [u8]) -> (usize, usize) {
     let shelf = ImageShelf::<F>::over(bytes);
     (shelf.rows(), shelf.places())
 }

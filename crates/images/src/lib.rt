@@ -72,7 +72,7 @@ impl Head {
         ensures value { result ≡ row_count self.now }
         ensures bound { result ≤ 510 }
     {
-        self.data_rows as usize + self.parity_rows as usize
+        usize::from(self.data_rows) + usize::from(self.parity_rows)
     }
 
     // The places of one row, block and card.
@@ -80,7 +80,7 @@ impl Head {
         ensures value { result ≡ place_count self.now }
         ensures bound { result ≤ 65790 }
     {
-        self.block_length as usize + self.card_length as usize
+        usize::from(self.block_length) + usize::from(self.card_length)
     }
 
     // How many bytes an image with this head has.
@@ -120,7 +120,8 @@ pub enum ImageRefusal {
 }
 
 impl ImageRefusal {
-    // One of what a refusal tells, so it is no `From`.
+    // The number that callers and reports have for it. A method, and no `From`: refusals of a call, an image and an input are all asked alike, and one of them
+    // is asked its layer too.
     pub fn number(self) -> u8
         ensures { result ≡ refusal_number self }
     {
@@ -133,6 +134,7 @@ impl ImageRefusal {
 }
 
 // The head of an image, or why the bytes are none.
+#[tactic(auto, using(crate::proofs::Exact::exactly))]
 pub fn check(bytes: &[u8]) -> Result<Head, ImageRefusal>
     ensures value { result ≡ checked bytes.now }
     ensures exact { ExactlyTheImages bytes.now result }

@@ -3,7 +3,7 @@ use algebra::Field;
 use own_shelf::OwnShelf;
 use rows::element;
 use rules::{Refusal, Sizes, Verdict};
-use shelves::{Got, Shelf};
+use shelves::Shelf;
 use std::alloc::{AllocError, Global};
 use tray::Tray;
 
@@ -29,7 +29,7 @@ pub enum Damage {
 }
 
 fn add_one<F: Field>(shelf: &mut OwnShelf<F>, row: usize, place: usize) {
-    if let Got::Symbol(symbol) = shelf.get(row, place) {
+    if let Some(symbol) = shelf.get(row, place).symbol() {
         let _ = shelf.put(row, place, symbol.sum(F::one()));
     }
 }
@@ -101,20 +101,28 @@ impl<F: Field> Bench<F> {
         let _ = self.tray.replace_shelf(shelf);
     }
 
-    pub fn damage(&mut self, row: usize, damage: Damage) {
+    // Takes the shelf out, hands it over, and puts it back.
+    fn with_shelf<R, V: FnOnce(&mut OwnShelf<F>) -> R>(&mut self, visit: V) -> R
+        requires { V.IsAlwaysCallable visit }
+    {
         let mut shelf = self.take_shelf();
-        damage_shelf(&mut shelf, row, damage);
+        let given = visit(&mut shelf);
         self.put_back(shelf);
+        given
+    }
+
+    pub fn damage(&mut self, row: usize, damage: Damage) {
+        self.with_shelf(|shelf| damage_shelf(shelf, row, damage));
     }
 
     // The numbers of a row's symbols.
     pub fn row(&mut self, row: usize) -> Result<Vec<Option<usize>>, AllocError> {
-        let shelf = self.take_shelf();
-        let numbers = (0..shelf.places())
-            .map(|place| number_at(&shelf, row, place))
-            .collect(self.heap);
-        self.put_back(shelf);
-        numbers
+        let heap = self.heap;
+        self.with_shelf(|shelf| {
+            (0..shelf.places())
+                .map(|place| number_at(shelf, row, place))
+                .collect(heap)
+        })
     }
 
     // The numbers of all rows.
@@ -154,8 +162,5 @@ impl<F: Field> Bench<F> {
 }
 
 fn number_at<F: Field>(shelf: &OwnShelf<F>, row: usize, place: usize) -> Option<usize> {
-    match shelf.get(row, place) {
-        Got::Symbol(symbol) => Some(symbol.number()),
-        Got::Hole | Got::Outside => None,
-    }
+    shelf.get(row, place).symbol().map(|symbol| symbol.number())
 }

@@ -100,7 +100,7 @@ pub fn found_by_a_round<F: Field>(rt: &HostRuntime, bench: &mut Bench<F>) -> io:
     round(rt, bench)
 }
 
-// With the shelf taken out, every call finds that the tray does not fit.
+// With the shelf taken out, every call finds that the tray does not fit. Here by hand: the calls need the bench while its shelf is out.
 pub fn without_shelf<F: Field>(rt: &HostRuntime, bench: &mut Bench<F>) -> io::Result<()> {
     println!(rt; "the shelf is taken out")?;
     let before = bench.all()?;

@@ -1,10 +1,10 @@
-// Each call's answer in words, one line each.
+// Each call's answer in words, one line each. The runtime and the bench are two arguments, since half of these need no bench.
 use crate::bench::{Bench, Rows};
 use algebra::Field;
 use rules::{Entry, Refusal, Verdict};
 use std::{fmt, io};
 
-// What an accepted call gives.
+// What an accepted call gives. As ffi's Given, but for words: neither program stands on the other.
 #[derive(Clone, Copy)]
 enum Told {
     Done,
@@ -114,7 +114,7 @@ pub fn read<F: Field>(rt: &HostRuntime, bench: &Bench<F>, row: usize) -> io::Res
                 .collect(rt.alloc())?;
             numbers(rt, "read of", row, &read)
         }
-        Err(refusal) => println!(rt; "read of row {row}: refused {refusal}"),
+        Err(refusal) => tell(rt, format_args!("read of row {row}"), Err(refusal)),
     }
 }
 

@@ -23,9 +23,6 @@ pub record Listed (sound : ℕ → Bool) (r : ℕ) (rows : List ℕ) (count : �
   pub below : count ≤ 4 → (row : ℕ) → row < r → not (among rows count row) ≡ sound row
   pub above : count ≤ 4 → (row : ℕ) → r ≤ row → among rows count row ≡ false
 
-pub listed_none : (sound : ℕ → Bool) (rows : List ℕ) → Listed sound 0 rows 0
-listed_none sound rows = record { counts = refl; below = λ few row h. absurd (omega arith); above = λ few row h. refl }
-
 among_more : (rows : List ℕ) (count r row : ℕ) → count < length rows → among (set rows count r) (count + 1) row ≡ (among rows count row || (eqb r row || false))
 among_more rows count r row h =
     ap (list_any (λ unsound. eqb unsound row)) (take_more_set rows count r h) ∙ list_any-append (λ unsound. eqb unsound row) (take count rows) (r ∷ [])

@@ -1,15 +1,13 @@
 -- Elements kept by their numbers.
-use Rattle.std.proofs.Common.{List, arith, add-one, ap, eqb, eqb-true, lt-ltb, ltb, sym, true, ℕ, ◌+◌, ◌<◌, ◌∙◌, ◌≡◌}
+use Rattle.std.proofs.Common.{List, length, arith, add-one, ap, eqb, eqb-true, lt-ltb, ltb, sym, true, ℕ, ◌+◌, ◌-◌, ◌<◌, ◌≤◌, ◌∙◌, ◌≡◌}
+use Rattle.std.proofs.lemmas.List.{get_or_past}
 use Rattle.algebra.specs.Algebra.{Field}
 use Rattle.algebra.proofs.Cases.{by_cases}
 use Rattle.algebra.proofs.Ring.{zero-mul}
 use Rattle.algebra.specs.Sum.{sum_to}
 use Rattle.rows.specs.Weights.{element_of}
-use Rattle.rows.proofs.Making.{made}
-use Rattle.std.specs.Array.{IsFromFnResultFrom}
-use Rattle.std.specs.Fn.{Called}
-use denote.Param.Members.{Mut}
 use Rattle.mending.specs.Stored.{stored}
+use Rattle.mending.proofs.Weighing.{sum_front}
 
 module _ {A : Type 0} (F : Field A) where
   pub element_number : (x : A) → element_of F (F.number x) ≡ x
@@ -37,9 +35,10 @@ module _ {A : Type 0} (F : Field A) where
   pub sum_passed : (n : ℕ) (w x : ℕ → A) → w n ≡ F.zer → sum_to F n (λ i. F.mul (w i) (x i)) ≡ sum_to F (n + 1) (λ i. F.mul (w i) (x i))
   sum_passed n w x e = sym (F.add-zero _) ∙ ap (F.add _) (sym (ap (λ v. F.mul v (x n)) e ∙ zero-mul F _)) ∙ sum_next n w x
 
-  -- an array made by `from_fn`, of the numbers of elements
-  pub numbers_made : {C : Type 0} (g : Mut C (ℕ × Unit {0}) ℕ) (c : C) (x : ℕ → A) → ((i y : ℕ) (q : C) → Called g c (i, tt) y q → (q ≡ c) × (F.number (x i) ≡ y))
-      → (ys : List ℕ) (count : ℕ) → IsFromFnResultFrom g c ys 0 count → (i : ℕ) → i < count → stored F ys i ≡ x i
-  numbers_made g c x each ys count is i h =
-      let at = made g c (λ i y. F.number (x i) ≡ y) each ys count 0 is i (omega arith) (omega arith) in
-      element_numbered _ _ (at.2 ∙ sym (at.1.1 0))
+  -- of more elements than are kept: those beyond are zero
+  pub sum_kept : (numbers : List ℕ) (x : ℕ → A) (few all : ℕ) → few ≤ all → (few < all → length numbers ≤ few)
+      → sum_to F few (λ i. F.mul (stored F numbers i) (x i)) ≡ sum_to F all (λ i. F.mul (stored F numbers i) (x i))
+  sum_kept numbers x few all le past =
+      let rest : few + (all - few) ≡ all = omega arith in
+      sym (sum_front F few (all - few) (λ i. F.mul (stored F numbers i) (x i)) (λ i h. ap (λ w. F.mul w (x (few + i))) (ap (element_of F) (get_or_past numbers (few + i) 0 (omega (arith, past (omega arith)))) ∙ element_zero) ∙ zero-mul F _))
+      ∙ ap (λ n. sum_to F n (λ i. F.mul (stored F numbers i) (x i))) rest

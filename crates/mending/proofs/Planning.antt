@@ -8,7 +8,7 @@ use Rattle.algebra.specs.Theorems.{scale, coefficient, Square, Solves, solution}
 use Rattle.algebra.proofs.Matrix.{exactly_one_solution}
 use Rattle.algebra.proofs.Sums.{sum_below}
 use Rattle.rules.specs.Search.{counted}
-use Rattle.rules.proofs.Counted.{select, select_rank, counted_before, counted_not}
+use Rattle.rules.proofs.Counted.{select, select_rank, counted_before}
 use Rattle.mending.specs.declared.plans.Choice.{Choice}
 use Rattle.mending.specs.Picked.{Picked}
 use Rattle.mending.specs.Plans.{lost, used_by, share, weight_in, Planned}
@@ -38,9 +38,6 @@ picked_is bound test i c pick h e =
     let s = select_rank bound test c pick.below pick.passes in
     let t = select_rank bound test i h e in
     sym s ∙ ap (select bound test) pick.rank ∙ t
-
-counted_few : (n : ℕ) (test : ℕ → Bool) → counted n test ≤ n
-counted_few n test = omega (arith, counted_not n test)
 
 module _ {A : Type 0} (F : Field A) (k p : ℕ) (sound : ℕ → Bool) where
   pub square_of : (used lost_at : ℕ → ℕ) → k + 4 ≤ F.size → p ≤ 4 → counted k (lost F k sound) ≤ counted p (λ i. sound (k + i))

@@ -1,5 +1,5 @@
 -- Rows put whole, place after place and row after row.
-use Rattle.std.proofs.Common.{◌≡◌, ℕ, ◌+◌, ◌-◌, ◌^◌, ◌<◌, ◌≤◌, Bool, true, false, cond, not, ◌&&◌, eqb, ltb, ◌≢◌, sym, refl, ap, ◌∙◌, ap₂, inl, arith, ltb-false, ltb-true, le-ltb, lt-ltb, eq-eqb, eqb-true, le-leb}
+use Rattle.std.proofs.Common.{◌≡◌, ℕ, ◌+◌, ◌-◌, ◌<◌, ◌≤◌, Bool, true, false, cond, not, ◌&&◌, eqb, ltb, ◌≢◌, sym, refl, ap, ◌∙◌, ap₂, inl, arith, ltb-false, ltb-true, le-ltb, lt-ltb, eq-eqb, eqb-true, le-leb}
 use borrow.Author.Tests.{lt-leb, both_ways}
 use Rattle.algebra.specs.Algebra.{Field}
 use Rattle.algebra.proofs.Cases.{by_cases, and_left, and_both}
@@ -51,17 +51,13 @@ module _ {X A : Type 0} (F : Field A) (meaning : X → A) (sizes : Sizes) where
     abbrev s : State A
     s = seen meaning sizes before
 
-    -- where the tray fits, no sum of its sizes overflows
-    no_overflow : fits F s ≡ true → k s + p s < 2 ^ 63
-    no_overflow fit = let f = fitting F s fit in omega arith
-
     -- one place more of a block
     module _ (weights : ℕ → A) (row place : ℕ) (now : Contents X) (x : X) (h : row < k s + p s) (l : place < n s)
         (held : Holds F meaning sizes before (block_cells F meaning sizes weights row before place) now)
-        (is : k s + p s < 2 ^ 63 → meaning x ≡ weighted_sum F meaning now weights (k s + p s) place) where
+        (is : meaning x ≡ weighted_sum F meaning now weights (k s + p s) place) where
       worked_here : fits F s ≡ true → meaning x ≡ worked F meaning sizes weights row before place
       worked_here fit =
-          is (no_overflow fit)
+          is
           ∙ sum_below F (k s + p s) _ _ (λ r o. ap (λ c. F.mul (weights r) (symbol_or F.zer c)) (held.at fit r place ∙ untouched r))
         where
           untouched : (r : ℕ) → block_cells F meaning sizes weights row before place r place ≡ seen_cell meaning (before.at r place)
@@ -84,13 +80,6 @@ module _ {X A : Type 0} (F : Field A) (meaning : X → A) (sizes : Sizes) where
             ∙ ap₂ (λ (v w : Cell A). cond (eqb r row && eqb t place) v w) (ap symbol (worked_here fit)) (held.at fit r t)
             ∙ place_more row place r t (λ u. symbol (worked F meaning sizes weights row before u)) (seen_cell meaning (before.at r t));
       }
-
-    pub block_none : (weights : ℕ → A) (row : ℕ) → Holds F meaning sizes before (block_cells F meaning sizes weights row before 0) before
-    block_none weights row = record {
-      rows = refl;
-      places = refl;
-      at = λ fit r t. let e = le-ltb t 0 (omega arith) in rw (e, never (eqb r row));
-    }
 
     -- a block and then its card
     module _ (weights : ℕ → A) (row : ℕ) (mid after : Contents X) (h : row < k s + p s)
@@ -232,9 +221,6 @@ module _ {X A : Type 0} (F : Field A) (meaning : X → A) (sizes : Sizes) where
                 (seen_cell meaning (now.at r t))) q u
                 ∙ (held.at fit r t ∙ row_before r t i ∙ sym (mended_past r t (ltb-false t (n s + m s) u)) ∙ sym (row_next r t i))))
                 (λ o. rw o (held.at fit r t ∙ beside (row + 1) r t refl (λ i. both_ways _ o (eq-eqb r row i))))
-
-    pub none_mended : (blocks : ℕ → ℕ → A) → Holds F meaning sizes before (mended_below F meaning sizes blocks before 0) before
-    none_mended blocks = record { rows = refl; places = refl; at = λ fit r t. let z = le-ltb r 0 (omega arith) in rw z }
 
     -- all rows
     pub all_mended : (fit : fits F s ≡ true) (blocks : ℕ → ℕ → A) (after : Contents X) → Holds F meaning sizes before (mended_below F meaning sizes blocks before (k s + p s)) after

@@ -6,9 +6,6 @@ use Rattle.algebra.specs.Cauchy.{after, row, grown, reduced, solve}
 use Rattle.algebra.proofs.Sums.{sum_below}
 use Rattle.mending.specs.Stored.{from, reduced_at, grown_at}
 
-pub after_from : {A : Type 0} (first : ℕ) (f : ℕ → A) → after (from first f) ≡ from (first + 1) f
-after_from first f = fun_ext λ i. let e : first + suc i ≡ first + 1 + i = omega arith in ap f e
-
 module _ {A : Type 0} (F : Field A) where
   reduced_alike : (x x' l l' c c' y y' d d' : A) → x ≡ x' → l ≡ l' → c ≡ c' → y ≡ y' → d ≡ d'
       → F.mul (F.inv (minus F x y)) (minus F (F.mul (minus F y l) d) (F.mul (minus F x l) c)) ≡ F.mul (F.inv (minus F x' y')) (minus F (F.mul (minus F y' l') d') (F.mul (minus F x' l') c'))

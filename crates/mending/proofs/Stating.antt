@@ -20,32 +20,39 @@ use Rattle.mending.specs.declared.plans.Plan.{Plan}
 use Rattle.mending.specs.Plans.{flag, Gathered, lost, used_by, weight_of, RowsFit, Planned, PlannedFor, Ready}
 use Rattle.mending.proofs.Weighing.{data_symbol, data_sound, data_lost, combined, used_fits, no_weight}
 
--- a state of which the rows that are not sound are gathered, no more of them than there are parity rows
-module _ {X : Type 0} (F : Field X) (s : State X) (fit : fits F s ≡ true) (few : unsound_count F s ≤ p s) (damage : Damage) (gathered : Gathered F s damage) where
-  rows_fit : RowsFit F s.sizes
-  rows_fit = let f = fitting F s fit in record { few = f.k_high; four = f.p_high; room = f.enough }
+rows_fit : {X : Type 0} (F : Field X) (s : State X) → fits F s ≡ true → RowsFit F s.sizes
+rows_fit F s fit = let f = fitting F s fit in record { few = f.k_high; four = f.p_high; room = f.enough }
 
-  gathered_is : (row : ℕ) → row < k s + p s → flag damage row ≡ sound F s row
-  gathered_is row h = gathered.rows (omega (arith, rows_fit.four)) row h
-
+-- a state of which it is known which rows are sound, and that no more are not than there are parity rows
+module _ {X : Type 0} (F : Field X) (s : State X) (few : unsound_count F s ≤ p s) (damage : Damage) (flags_are : (row : ℕ) → row < k s + p s → flag damage row ≡ sound F s row) where
   bad_rows : counted (k s) (lost F (k s) (flag damage)) ≡ counted (k s) (bad F s)
-  bad_rows = counted_same (k s) _ _ (λ j h. ap not (gathered_is j (omega arith)))
+  bad_rows = counted_same (k s) _ _ (λ j h. ap not (flags_are j (omega arith)))
 
   good_rows : (i : ℕ) → i ≤ p s → counted i (λ h. flag damage (k s + h)) ≡ counted i (good F s)
-  good_rows i h = counted_same i _ _ (λ j l. gathered_is (k s + j) (omega arith))
+  good_rows i h = counted_same i _ _ (λ j l. flags_are (k s + j) (omega arith))
 
   -- there are enough sound parity rows
   enough_rows : counted (k s) (lost F (k s) (flag damage)) ≤ counted (p s) (λ i. flag damage (k s + i))
   enough_rows = omega (arith, bad_rows, good_rows (p s) (omega arith), counted_add (k s) (p s) (bad F s), counted_not (p s) (good F s))
 
-  -- so what is planned for them can mend the state
+-- what is planned for the damage of a state can mend it
+module _ {X : Type 0} (F : Field X) (s : State X) (fit : fits F s ≡ true) (few : unsound_count F s ≤ p s) (damage : Damage) (gathered : Gathered F s damage) where
   pub planned_ready : (sizes : Sizes) (plan : Plan) → s.sizes ≡ sizes
       → (RowsFit F sizes → counted sizes.data_rows (λ j. not (flag damage j)) ≤ counted sizes.parity_rows (λ i. flag damage (sizes.data_rows + i)) → PlannedFor F sizes damage plan) → Ready F s plan
   planned_ready sizes plan same plans =
+      let rows : RowsFit F s.sizes = rows_fit F s fit in
+      let flags_are : (row : ℕ) → row < k s + p s → flag damage row ≡ sound F s row = gathered.rows (omega (arith, rows.four)) in
       let planned : PlannedFor F s.sizes damage plan =
-      subst (λ (z : Sizes). (RowsFit F z → counted z.data_rows (λ j. not (flag damage j)) ≤ counted z.parity_rows (λ i. flag damage (z.data_rows + i)) → PlannedFor F z damage plan)) (sym same) plans rows_fit enough_rows in
+      subst (λ (z : Sizes). (RowsFit F z → counted z.data_rows (λ j. not (flag damage j)) ≤ counted z.parity_rows (λ i. flag damage (z.data_rows + i)) → PlannedFor F z damage plan)) (sym same) plans rows (enough_rows F s few damage flags_are) in
       let e : damage ≡ plan.choice.damage = sym planned.damage_is in
-      record { fit = fit; few = few; gathered = subst (Gathered F s) e gathered; planned = subst (λ d. PlannedFor F s.sizes d plan) e planned }
+      record {
+        fit = fit;
+        few = few;
+        data_rows_are = ap (λ (z : Sizes). z.data_rows) planned.sizes_are;
+        parity_rows_are = ap (λ (z : Sizes). z.parity_rows) planned.sizes_are;
+        flags_are = subst (λ (d : Damage). (row : ℕ) → row < k s + p s → flag d row ≡ sound F s row) e flags_are;
+        planned = subst (λ (d : Damage). Planned F (k s) (p s) (flag d) plan) e planned.planned;
+      }
 
 module _ {X : Type 0} (F : Field X) (s : State X) (plan : Plan) (ready : Ready F s plan) where
   fit : fits F s ≡ true
@@ -58,32 +65,32 @@ module _ {X : Type 0} (F : Field X) (s : State X) (plan : Plan) (ready : Ready F
   on = flag plan.choice.damage
 
   planned : Planned F (k s) (p s) on plan
-  planned = ready.planned.planned
+  planned = ready.planned
 
   -- what the plan's rows say is what an audit finds
   pub flag_is : (row : ℕ) → row < k s + p s → on row ≡ sound F s row
-  flag_is = gathered_is F s fit few plan.choice.damage ready.gathered
+  flag_is = ready.flags_are
 
   bads : counted (k s) (lost F (k s) on) ≡ counted (k s) (bad F s)
-  bads = bad_rows F s fit few plan.choice.damage ready.gathered
+  bads = bad_rows F s few plan.choice.damage flag_is
 
   goods : (i : ℕ) → i ≤ p s → counted i (λ h. on (k s + h)) ≡ counted i (good F s)
-  goods = good_rows F s fit few plan.choice.damage ready.gathered
+  goods = good_rows F s few plan.choice.damage flag_is
 
   enough_of : counted (k s) (lost F (k s) on) ≤ counted (p s) (λ i. on (k s + i))
-  enough_of = enough_rows F s fit few plan.choice.damage ready.gathered
+  enough_of = enough_rows F s few plan.choice.damage flag_is
 
   -- the weights of a row, by the plan's sizes and by the state's
   pub weights_here : (row : ℕ) (weights : ℕ → X)
-      → (RowsFit F plan.choice.sizes → row < plan.choice.sizes.data_rows + plan.choice.sizes.parity_rows → (source : ℕ) → source < 68 → source < plan.choice.sizes.data_rows + plan.choice.sizes.parity_rows
+      → (RowsFit F plan.choice.sizes → row < plan.choice.sizes.data_rows + plan.choice.sizes.parity_rows → (source : ℕ) → source < plan.choice.sizes.data_rows + plan.choice.sizes.parity_rows
       → weights source ≡ weight_of F plan.choice.sizes.data_rows on plan row source)
       → row < k s + p s → (source : ℕ) → source < k s + p s → weights source ≡ weight_of F (k s) on plan row source
   weights_here row weights are h source l =
-      let e = ready.planned.sizes_are in
-      let here : row < plan.choice.sizes.data_rows + plan.choice.sizes.parity_rows = rw e h in
-      let f = fitting F s fit in
-      let fits_too : RowsFit F s.sizes = rows_fit F s fit few plan.choice.damage ready.gathered in
-      are (rw e fits_too) here source (omega (arith, f.k_high, f.p_high)) (rw e l) ∙ ap (λ (z : Sizes). weight_of F z.data_rows on plan row source) e
+      let a = ready.data_rows_are in
+      let b = ready.parity_rows_are in
+      let rows = rows_fit F s fit in
+      let fits_too : RowsFit F plan.choice.sizes = record { few = rw a rows.few; four = rw b rows.four; room = rw a rows.room } in
+      are fits_too (rw (a, b) h) source (rw (a, b) l) ∙ ap (λ (z : ℕ). weight_of F z on plan row source) a
 
   used_here : (i : ℕ) → i < p s → used F s i ≡ true → used_by F (k s) on i ≡ true
   used_here i h u =
@@ -159,7 +166,7 @@ module _ {X : Type 0} (F : Field X) (s : State X) (plan : Plan) (ready : Ready F
         ap₂ (λ a b. a && b) e fits_there)
       where
         less : ltb (counted i (λ h. on (k s + h))) plan.choice.lost.count ≡ true
-        less = subst (λ (z : Sizes). ltb (counted i (λ h. on (z.data_rows + h))) plan.choice.lost.count ≡ true) ready.planned.sizes_are says
+        less = subst (λ (z : ℕ). ltb (counted i (λ h. on (z + h))) plan.choice.lost.count ≡ true) ready.data_rows_are says
 
         is_used : used F s i ≡ true
         is_used = and_from _ _ e (lt-ltb _ _ (omega (arith, goods i (omega arith), bads, planned.count, ltb-true (counted i (λ h. on (k s + h))) plan.choice.lost.count less)))

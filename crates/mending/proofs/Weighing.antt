@@ -22,7 +22,7 @@ selected_picked n test r h = let s = selected n test r h in record { below = s.b
 
 module _ {A : Type 0} (F : Field A) where
   -- terms that are zero from k on do not count
-  sum_front : (k p : ℕ) (f : ℕ → A) → ((i : ℕ) → i < p → f (k + i) ≡ F.zer) → sum_to F (k + p) f ≡ sum_to F k f
+  pub sum_front : (k p : ℕ) (f : ℕ → A) → ((i : ℕ) → i < p → f (k + i) ≡ F.zer) → sum_to F (k + p) f ≡ sum_to F k f
   sum_front k zero f e = let z : k + 0 ≡ k = omega arith in ap (λ n. sum_to F n f) z
   sum_front k (suc p) f e =
       let z : k + suc p ≡ suc (k + p) = omega arith in

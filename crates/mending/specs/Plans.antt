@@ -39,7 +39,7 @@ module _ {X : Type 0} (F : Field X) (k : ℕ) (sound : ℕ → Bool) where
 abbrev pub weight_in : {X : Type 0} → Field X → List (List ℕ) → ℕ → ℕ → X
 weight_in F weights row rank = stored F (slice_index_or weights row []) rank
 
--- the sizes keep their limits, and the field has a point for each row
+-- the rows keep their upper limits, and the field has a point for each row
 pub record RowsFit {X : Type 0} (F : Field X) (sizes : Sizes) : Type 0 where
   pub few : sizes.data_rows ≤ 64
   pub four : sizes.parity_rows ≤ 4
@@ -64,12 +64,15 @@ pub record PlannedFor {X : Type 0} (F : Field X) (sizes : Sizes) (damage : Damag
   pub damage_is : plan.choice.damage ≡ damage
   pub planned : Planned F sizes.data_rows sizes.parity_rows (flag damage) plan
 
--- A state that the plan can mend: it fits, no more rows are lost than there are parity rows, and the plan is for its sizes and its damage.
+-- A state that the plan can mend: it fits, no more rows are not sound than there are parity rows, and the plan is for as many data rows and parity
+-- rows, and for the rows that are sound.
 pub record Ready {X : Type 0} (F : Field X) (s : State X) (plan : Plan) : Type 0 where
   pub fit : fits F s ≡ true
   pub few : unsound_count F s ≤ p s
-  pub gathered : Gathered F s plan.choice.damage
-  pub planned : PlannedFor F s.sizes plan.choice.damage plan
+  pub data_rows_are : plan.choice.sizes.data_rows ≡ k s
+  pub parity_rows_are : plan.choice.sizes.parity_rows ≡ p s
+  pub flags_are : (row : ℕ) → row < k s + p s → flag plan.choice.damage row ≡ sound F s row
+  pub planned : Planned F (k s) (p s) (flag plan.choice.damage) plan
 
 -- the weight of row `source` in a lost data row, or in a parity row that is worked from the data rows
 abbrev pub weight_of : {X : Type 0} → Field X → ℕ → (ℕ → Bool) → Plan → ℕ → ℕ → X

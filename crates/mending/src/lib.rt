@@ -5,12 +5,12 @@ ghost use Rattle.std.specs.Prelude.{◌≡◌, ℕ, ◌+◌, ◌-◌, ◌^◌, �
 ghost use Rattle.std.specs.List.{range_with_len};
 ghost use Rattle.algebra.specs.Below.{Below};
 ghost use Rattle.rows.specs.Cards.{Holds};
-ghost use Rattle.rows.specs.Shown.{shown};
+ghost use Rattle.rows.specs.Shown.{shown, SameGroup};
 ghost use Rattle.rules.specs.Codes.{differ};
 ghost use Rattle.rules.specs.Search.{counted, lowest, lowest_pair};
 ghost use Rattle.rules.specs.States.{fits, with_cells};
 ghost use Rattle.rules.specs.Updates.{Worked, worked_misfit, mended_cells};
-ghost use Rattle.rules.specs.Views.{element_at, seen_contents};
+ghost use Rattle.rules.specs.Views.{element_at, seen, seen_contents};
 ghost use Rattle.mending.specs.Plans.{flag, Gathered, Ready};
 ghost use Rattle.mending.specs.Puts.{weighted_sum, block_cells, row_cells};
 ghost use Rattle.mending.specs.Stored.{stored as stored_at};
@@ -19,10 +19,9 @@ mod picks;
 mod plans;
 mod solver;
 
-use crate::solver::stored;
 use algebra::Field;
 pub use plans::Plan;
-use rows::Group;
+use rows::{Group, GroupMut};
 use shelves::Shelf;
 
 // The rows that are not sound, the lowest four of them, and how many there are in all. By the project's rules they are gathered by value, in an array
@@ -52,13 +51,14 @@ impl Damage {
 }
 
 // Audits all rows, and gathers those that are not sound.
-pub fn gather<S: Shelf>(group: &Group<S>) -> Damage
+pub fn gather<S: Shelf>(group: &Group<'_, S>) -> Damage
 where
     S::Symbol: Field,
     ensures { let F = S.Symbol.Field.algebra in let s = shown S.Shelf.contents S.Symbol.Field.meaning group.now in fits F s ≡ true → Gathered F s result }
 {
     let mut rows = [0; 4];
     let mut count: usize = 0;
+    // Counted by hand: the count goes on where the array is full.
     for row in 0..group.sizes.rows() {
         if !group.audit(row).is_sound() {
             if count < 4 {
@@ -70,115 +70,120 @@ where
     Damage { rows, count }
 }
 
-// What the rows with these weights make at a place. A row without weight is not read: it may be one that cannot be.
-fn weighted<S: Shelf>(group: &Group<S>, weights: &[usize; 68], place: usize) -> S::Symbol
-where
-    S::Symbol: Field,
-    ensures { let sizes = group.now.sizes in sizes.data_rows + sizes.parity_rows < 2 ^ 63
-        → S.Symbol.Field.meaning result ≡ weighted_sum S.Symbol.Field.algebra S.Symbol.Field.meaning (S.Shelf.contents group.now.shelf) (stored_at S.Symbol.Field.algebra weights.now) (sizes.data_rows + sizes.parity_rows) place }
-{
-    let mut sum: S::Symbol = <S::Symbol>::zero();
-    for row in 0..group.sizes.rows() {
-        let weight: S::Symbol = stored(weights, row);
-        if !weight.equals(<S::Symbol>::zero()) {
-            sum = sum.sum(weight.product(rows::symbol_at(&group.shelf, row, place)));
+// A row, and the weights with which its symbols follow from those of all rows: by their numbers, as in a plan, and one for each row that a tray could have.
+#[derive(Drop)]
+struct WorkedRow {
+    row: usize,
+    weights: [usize; 68],
+}
+
+impl WorkedRow {
+    // The row's symbol at a place, as worked. A row without weight is not read: it may be one that cannot be.
+    fn symbol<S: Shelf>(&self, group: &Group<'_, S>, place: usize) -> S::Symbol
+    where
+        S::Symbol: Field,
+        ensures { let sizes = group.now.sizes in
+            S.Symbol.Field.meaning result ≡ weighted_sum S.Symbol.Field.algebra S.Symbol.Field.meaning (S.Shelf.contents group.now.shelf.now) (stored_at S.Symbol.Field.algebra self.now.weights) (sizes.data_rows + sizes.parity_rows) place }
+    {
+        let mut sum: S::Symbol = <S::Symbol>::zero();
+        for (source, number) in self.weights.iter().enumerate().take(group.sizes.rows()) {
+            let weight: S::Symbol = rows::element(*number);
+            if !weight.equals(<S::Symbol>::zero()) {
+                sum = sum.sum(weight.product(rows::symbol_at(group.shelf, source, place)));
+            }
+        }
+        sum
+    }
+
+    // Whether the row does not hold its symbol at a place.
+    fn differs_at<S: Shelf>(&self, group: &Group<'_, S>, place: usize) -> bool
+    where
+        S::Symbol: Field,
+        ensures { let sizes = group.now.sizes in
+            result ≡ differ S.Symbol.Field.algebra
+            (weighted_sum S.Symbol.Field.algebra S.Symbol.Field.meaning (S.Shelf.contents group.now.shelf.now) (stored_at S.Symbol.Field.algebra self.now.weights) (sizes.data_rows + sizes.parity_rows) place)
+            (element_at S.Symbol.Field.algebra S.Symbol.Field.meaning (S.Shelf.contents group.now.shelf.now) self.now.row place) }
+    {
+        !self
+            .symbol(group, place)
+            .equals(rows::symbol_at(group.shelf, self.row, place))
+    }
+
+    // The lowest place of the row's block where it does not hold its symbol.
+    fn first_difference<S: Shelf>(&self, group: &Group<'_, S>) -> Option<usize>
+    where
+        S::Symbol: Field,
+        ensures { let sizes = group.now.sizes in
+            result ≡ lowest sizes.block_length (λ place. differ S.Symbol.Field.algebra
+            (weighted_sum S.Symbol.Field.algebra S.Symbol.Field.meaning (S.Shelf.contents group.now.shelf.now) (stored_at S.Symbol.Field.algebra self.now.weights) (sizes.data_rows + sizes.parity_rows) place)
+            (element_at S.Symbol.Field.algebra S.Symbol.Field.meaning (S.Shelf.contents group.now.shelf.now) self.now.row place)) }
+    {
+        (0..group.sizes.block_length).find(|place| self.differs_at(group, *place))
+    }
+
+    // Puts the row's block: at each place its symbol.
+    fn put_block<S: Shelf>(&self, group: &mut GroupMut<'_, S>)
+    where
+        S::Symbol: Field,
+        ensures same { SameGroup group.old group.new }
+        ensures block { let F = S.Symbol.Field.algebra in let meaning = S.Symbol.Field.meaning in let sizes = group.old.sizes in let before = S.Shelf.contents group.old.shelf.now in
+            self.now.row < sizes.data_rows + sizes.parity_rows → Holds F meaning sizes before (block_cells F meaning sizes (stored_at F self.now.weights) self.now.row before sizes.block_length) (S.Shelf.contents group.new.shelf.now) }
+    {
+        for place in 0..group.sizes.block_length {
+            let symbol = self.symbol(&group.read(), place);
+            let _ = group.shelf.put(self.row, place, symbol);
         }
     }
-    sum
-}
 
-// Whether a row does not hold at a place what the rows with these weights make there.
-fn differs_at<S: Shelf>(group: &Group<S>, weights: &[usize; 68], row: usize, place: usize) -> bool
-where
-    S::Symbol: Field,
-    ensures { let sizes = group.now.sizes in sizes.data_rows + sizes.parity_rows < 2 ^ 63
-        → result ≡ differ S.Symbol.Field.algebra
-        (weighted_sum S.Symbol.Field.algebra S.Symbol.Field.meaning (S.Shelf.contents group.now.shelf) (stored_at S.Symbol.Field.algebra weights.now) (sizes.data_rows + sizes.parity_rows) place)
-        (element_at S.Symbol.Field.algebra S.Symbol.Field.meaning (S.Shelf.contents group.now.shelf) row place) }
-{
-    !weighted(group, weights, place).equals(rows::symbol_at(&group.shelf, row, place))
-}
-
-// The lowest place of a block where a row does not hold what the rows with these weights make.
-fn first_difference<S: Shelf>(group: &Group<S>, weights: &[usize; 68], row: usize) -> Option<usize>
-where
-    S::Symbol: Field,
-    ensures { let sizes = group.now.sizes in sizes.data_rows + sizes.parity_rows < 2 ^ 63
-        → result ≡ lowest sizes.block_length (λ place. differ S.Symbol.Field.algebra
-        (weighted_sum S.Symbol.Field.algebra S.Symbol.Field.meaning (S.Shelf.contents group.now.shelf) (stored_at S.Symbol.Field.algebra weights.now) (sizes.data_rows + sizes.parity_rows) place)
-        (element_at S.Symbol.Field.algebra S.Symbol.Field.meaning (S.Shelf.contents group.now.shelf) row place)) }
-{
-    (0..group.sizes.block_length).find(|place| differs_at(group, weights, row, *place))
+    // Puts the row, block and card.
+    fn put<S: Shelf>(&self, group: &mut GroupMut<'_, S>)
+    where
+        S::Symbol: Field,
+        ensures same { SameGroup group.old group.new }
+        ensures cells { let F = S.Symbol.Field.algebra in let meaning = S.Symbol.Field.meaning in let sizes = group.old.sizes in let before = S.Shelf.contents group.old.shelf.now in
+            self.now.row < sizes.data_rows + sizes.parity_rows → Holds F meaning sizes before (row_cells F meaning sizes (stored_at F self.now.weights) self.now.row before) (S.Shelf.contents group.new.shelf.now) }
+    {
+        self.put_block(group);
+        group.put_card(self.row);
+    }
 }
 
 // The lowest place of the block where parity row i is sound and does not fit the data rows as worked. A row that is used fits, since they are worked from it.
-fn row_misfit<S: Shelf>(group: &Group<S>, plan: &Plan, i: usize) -> Option<usize>
+fn row_misfit<S: Shelf>(group: &Group<'_, S>, plan: &Plan, i: usize) -> Option<usize>
 where
     S::Symbol: Field,
     ensures { let F = S.Symbol.Field.algebra in let s = shown S.Shelf.contents S.Symbol.Field.meaning group.now in
         Ready F s plan.now → i < group.now.sizes.parity_rows → (blocks : ℕ → ℕ → Below S.Symbol.Field.size) → Worked F s blocks → result ≡ lowest group.now.sizes.block_length (worked_misfit F s blocks i) }
 {
-    let row = group.sizes.data_rows.saturating_add(i);
+    let row = group.sizes.parity_row(i);
     if !plan.is_sound(row) || plan.is_used(i) {
         return None;
     }
-    first_difference(group, &plan.row_weights::<S::Symbol>(row), row)
+    plan.worked_row::<S::Symbol>(row).first_difference(group)
 }
 
 // The first place of the first sound parity row that does not fit the data rows as worked, by parity row and then by place of the block. The parity row
 // is named by its index i, not by its row k + i.
-pub fn first_worked_misfit<S: Shelf>(group: &Group<S>, plan: &Plan) -> Option<(usize, usize)>
+pub fn first_worked_misfit<S: Shelf>(group: &Group<'_, S>, plan: &Plan) -> Option<(usize, usize)>
 where
     S::Symbol: Field,
     ensures { let F = S.Symbol.Field.algebra in let s = shown S.Shelf.contents S.Symbol.Field.meaning group.now in
         Ready F s plan.now → (blocks : ℕ → ℕ → Below S.Symbol.Field.size) → Worked F s blocks → result ≡ lowest_pair group.now.sizes.parity_rows group.now.sizes.block_length (worked_misfit F s blocks) }
 {
-    // A loop: with find_map the pair would be made inside an Option of its own, which is no plainer.
-    for i in 0..group.sizes.parity_rows {
-        if let Some(place) = row_misfit(group, plan, i) {
-            return Some((i, place));
-        }
-    }
-    None
-}
-
-// Puts one row's block: at each place, what the rows with these weights make there.
-fn put_block<S: Shelf>(group: &mut Group<S>, weights: &[usize; 68], row: usize)
-where
-    S::Symbol: Field,
-    ensures sizes { group.new.sizes ≡ group.old.sizes }
-    ensures block { let F = S.Symbol.Field.algebra in let meaning = S.Symbol.Field.meaning in let sizes = group.old.sizes in let before = S.Shelf.contents group.old.shelf in
-        row < sizes.data_rows + sizes.parity_rows → Holds F meaning sizes before (block_cells F meaning sizes (stored_at F weights.now) row before sizes.block_length) (S.Shelf.contents group.new.shelf) }
-{
-    for place in 0..group.sizes.block_length {
-        let symbol = weighted(group, weights, place);
-        let _ = group.shelf.put(row, place, symbol);
-    }
-}
-
-// Puts one row, block and card.
-fn put_row<S: Shelf>(group: &mut Group<S>, weights: &[usize; 68], row: usize)
-where
-    S::Symbol: Field,
-    ensures sizes { group.new.sizes ≡ group.old.sizes }
-    ensures cells { let F = S.Symbol.Field.algebra in let meaning = S.Symbol.Field.meaning in let sizes = group.old.sizes in let before = S.Shelf.contents group.old.shelf in
-        row < sizes.data_rows + sizes.parity_rows → Holds F meaning sizes before (row_cells F meaning sizes (stored_at F weights.now) row before) (S.Shelf.contents group.new.shelf) }
-{
-    put_block(group, weights, row);
-    group.put_card(row);
+    (0..group.sizes.parity_rows).find_map(|i| row_misfit(group, plan, i).map(|place| (i, place)))
 }
 
 // Puts every row that is not sound, block and card: lost data rows as worked, and parity rows from all data rows.
-pub fn put_rows<S: Shelf>(group: &mut Group<S>, plan: &Plan)
+pub fn put_rows<S: Shelf>(group: &mut GroupMut<'_, S>, plan: &Plan)
 where
     S::Symbol: Field,
-    ensures sizes { group.new.sizes ≡ group.old.sizes }
-    ensures mended { let F = S.Symbol.Field.algebra in let meaning = S.Symbol.Field.meaning in let s = shown S.Shelf.contents meaning group.old in
-        Ready F s plan.now → (blocks : ℕ → ℕ → Below S.Symbol.Field.size) → Worked F s blocks → seen_contents meaning (S.Shelf.contents group.new.shelf) ≡ (with_cells s (mended_cells F s blocks)).contents }
+    ensures same { SameGroup group.old group.new }
+    ensures mended { let F = S.Symbol.Field.algebra in let meaning = S.Symbol.Field.meaning in let s = seen meaning group.old.sizes (S.Shelf.contents group.old.shelf.now) in
+        Ready F s plan.now → (blocks : ℕ → ℕ → Below S.Symbol.Field.size) → Worked F s blocks → seen_contents meaning (S.Shelf.contents group.new.shelf.now) ≡ (with_cells s (mended_cells F s blocks)).contents }
 {
     for row in 0..group.sizes.rows() {
         if !plan.is_sound(row) {
-            put_row(group, &plan.row_weights::<S::Symbol>(row), row);
+            plan.worked_row::<S::Symbol>(row).put(group);
         }
     }
 }

@@ -23,6 +23,7 @@ impl Picks {
     {
         let mut at = [0; 4];
         let mut count = 0;
+        // Counted by hand: the count is also where the next one goes. Mend's damage is gathered by a loop of its own, which audits each row once.
         for i in 0..bound {
             if count < 4 && test(i) {
                 at[count] = i;

@@ -3,14 +3,17 @@
 
 ghost use Rattle.std.specs.Prelude.{ℕ, ◌<◌, slice_index};
 
-use crate::Damage;
 use crate::picks::Picks;
 use crate::solver::{System, stored};
+use crate::{Damage, WorkedRow};
 use algebra::Field;
+use rows::numbers_of;
 use rules::Sizes;
 use std::array;
 
 // Which data rows are lost, and the sound parity rows, of which the lowest stand in for them.
+// That the sizes keep their limits (`RowsFit`) stays a premise of the clauses: calls make a plan only of a tray that fits, and a type that kept them would
+// ask more of callers.
 #[derive(Clone, Copy)]
 struct Choice {
     sizes: Sizes,
@@ -35,10 +38,7 @@ impl Choice {
         ensures used_at { sizes.data_rows + sizes.parity_rows ≤ 68 → (a : ℕ) → a < result.used.count → Picked sizes.parity_rows (λ i. flag damage (sizes.data_rows + i)) a (slice_index result.used.at a) }
     {
         let lost = Picks::below(sizes.data_rows, |j| !damage.is_sound(j));
-        let used = Picks::below(
-            sizes.parity_rows,
-            |i| damage.is_sound(sizes.data_rows.saturating_add(i)),
-        );
+        let used = Picks::below(sizes.parity_rows, |i| damage.is_sound(sizes.parity_row(i)));
         Choice {
             sizes,
             damage,
@@ -51,14 +51,13 @@ impl Choice {
     fn share<F: Field>(&self, i: usize, row: usize) -> F
         ensures { RowsFit F.Field.algebra self.now.sizes → i < 4 → F.Field.meaning result ≡ share_of F.Field.algebra self.now.sizes.data_rows (flag self.now.damage) i row }
     {
-        let data_rows = self.sizes.data_rows;
-        if row < data_rows {
+        if row < self.sizes.data_rows {
             if self.damage.is_sound(row) {
                 F::zero().difference(rows::coefficient(i, row))
             } else {
                 F::zero()
             }
-        } else if row == data_rows.saturating_add(i) {
+        } else if row == self.sizes.parity_row(i) {
             F::one()
         } else {
             F::zero()
@@ -82,7 +81,7 @@ impl Choice {
     }
 }
 
-// The rows that are chosen, and for each row its weights in the lost data rows.
+// The rows that are chosen, and for each row its weights in the lost data rows: for as many rows as a tray can have, since there is no heap below the programs.
 #[derive(Drop)]
 pub struct Plan {
     choice: Choice,
@@ -117,6 +116,7 @@ impl Plan {
     }
 
     // The weight of a row in the lost data row of a rank.
+    #[tactic(auto, using(std::proofs::lemmas::List::get_or_past, crate::proofs::Numbers::element_zero))]
     fn weight<F: Field>(&self, row: usize, rank: usize) -> F
         ensures { F.Field.meaning result ≡ weight_in F.Field.algebra self.now.weights row rank }
     {
@@ -124,13 +124,6 @@ impl Plan {
             Some(weights) => stored(weights, rank),
             None => F::zero(),
         }
-    }
-
-    // The weights of all rows in the lost data row of a rank. Like the weights in a parity row below but for what they are of.
-    fn lost_weights<F: Field>(&self, rank: usize) -> [usize; 68]
-        ensures { (row : ℕ) → row < 68 → stored_at F.Field.algebra result row ≡ weight_in F.Field.algebra self.now.weights row rank }
-    {
-        array::from_fn(|row| self.weight::<F>(row, rank).number())
     }
 
     // The weight of a row in a sum over the lost data rows, by the coefficients of parity row i.
@@ -147,15 +140,11 @@ impl Plan {
         sum
     }
 
-    // The weight of a row in parity row i, worked from the data rows: its own coefficient, and its part in the lost data rows. A small tray does not pay for
-    // rows that it has not.
+    // The weight of a row in parity row i, worked from the data rows: its own coefficient, and its part in the lost data rows.
     fn parity_weight<F: Field>(&self, i: usize, row: usize) -> F
-        ensures { RowsFit F.Field.algebra self.now.choice.sizes → i < 4 → row < self.now.choice.sizes.data_rows + self.now.choice.sizes.parity_rows
+        ensures { RowsFit F.Field.algebra self.now.choice.sizes → i < 4
             → F.Field.meaning result ≡ weight_of F.Field.algebra self.now.choice.sizes.data_rows (flag self.now.choice.damage) self.now (self.now.choice.sizes.data_rows + i) row }
     {
-        if row >= self.choice.sizes.rows() {
-            return F::zero();
-        }
         let through: F = self.through_lost(i, row);
         let own = if row < self.choice.sizes.data_rows && self.choice.damage.is_sound(row) {
             rows::coefficient::<F>(i, row)
@@ -165,24 +154,21 @@ impl Plan {
         own.sum(through)
     }
 
-    // The weights of all rows in parity row i, worked from the data rows.
-    fn parity_weights<F: Field>(&self, i: usize) -> [usize; 68]
-        ensures { RowsFit F.Field.algebra self.now.choice.sizes → i < 4
-            → (row : ℕ) → row < 68 → row < self.now.choice.sizes.data_rows + self.now.choice.sizes.parity_rows → stored_at F.Field.algebra result row ≡ weight_of F.Field.algebra self.now.choice.sizes.data_rows (flag self.now.choice.damage) self.now (self.now.choice.sizes.data_rows + i) row }
+    // A lost data row, or a parity row, with the weights of the tray's rows in it.
+    pub(crate) fn worked_row<F: Field>(&self, row: usize) -> WorkedRow
+        ensures row { result.row ≡ row }
+        ensures weights { RowsFit F.Field.algebra self.now.choice.sizes → row < self.now.choice.sizes.data_rows + self.now.choice.sizes.parity_rows
+            → (source : ℕ) → source < self.now.choice.sizes.data_rows + self.now.choice.sizes.parity_rows → stored_at F.Field.algebra result.weights source ≡ weight_of F.Field.algebra self.now.choice.sizes.data_rows (flag self.now.choice.damage) self.now row source }
     {
-        array::from_fn(|row| self.parity_weight::<F>(i, row).number())
-    }
-
-    // The weights of all rows in a lost data row, or in a parity row.
-    pub(crate) fn row_weights<F: Field>(&self, row: usize) -> [usize; 68]
-        ensures { RowsFit F.Field.algebra self.now.choice.sizes → row < self.now.choice.sizes.data_rows + self.now.choice.sizes.parity_rows
-            → (source : ℕ) → source < 68 → source < self.now.choice.sizes.data_rows + self.now.choice.sizes.parity_rows → stored_at F.Field.algebra result source ≡ weight_of F.Field.algebra self.now.choice.sizes.data_rows (flag self.now.choice.damage) self.now row source }
-    {
-        if row < self.choice.sizes.data_rows {
-            self.lost_weights::<F>(row - self.choice.damage.sound_among(0, row))
+        let rows = self.choice.sizes.rows();
+        let weights = if row < self.choice.sizes.data_rows {
+            let rank = row - self.choice.damage.sound_among(0, row);
+            numbers_of(rows, |source| self.weight::<F>(source, rank))
         } else {
-            self.parity_weights::<F>(row - self.choice.sizes.data_rows)
-        }
+            let i = row - self.choice.sizes.data_rows;
+            numbers_of(rows, |source| self.parity_weight::<F>(i, source))
+        };
+        WorkedRow { row, weights }
     }
 
     pub(crate) fn is_sound(&self, row: usize) -> bool

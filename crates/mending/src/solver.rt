@@ -6,6 +6,7 @@ ghost use Rattle.algebra.specs.Cauchy.{row, solve as solve_of};
 ghost use Rattle.mending.specs.Stored.{from, stored as stored_at, reduced_at, grown_at};
 
 use algebra::Field;
+use rows::numbers_of;
 use std::array;
 
 // The element at an index, and zero beyond the array.
@@ -96,11 +97,16 @@ impl System {
     fn row_sum<F: Field>(&self, point: F, unknowns: &[usize; 4], start: usize) -> F
         ensures { start ≤ self.now.size → F.Field.meaning result ≡ row F.Field.algebra (self.now.size - start) (from start (stored_at F.Field.algebra self.now.columns)) (from start (stored_at F.Field.algebra unknowns.now)) (F.Field.meaning point) }
     {
-        // By index: a zip of columns and unknowns would skip and take of both.
+        let terms = self
+            .columns
+            .iter()
+            .zip(unknowns)
+            .take(self.size)
+            .skip(start);
         let mut sum: F = F::zero();
-        for j in start..self.size {
-            let weight = point.difference(self.column(j)).inverse();
-            sum = sum.sum(weight.product(stored(unknowns, j)));
+        for (column, unknown) in terms {
+            let weight = point.difference(rows::element(*column)).inverse();
+            sum = sum.sum(weight.product(rows::element(*unknown)));
         }
         sum
     }
@@ -130,13 +136,9 @@ impl System {
         ensures { (j : ℕ) → j < self.now.size → stored_at F.Field.algebra result j ≡ F.Field.algebra.mul (F.Field.algebra.inv (minus F.Field.algebra F.Field.algebra.zer (stored_at F.Field.algebra self.now.columns j))) (solve_of F.Field.algebra self.now.size (stored_at F.Field.algebra self.now.rows) (stored_at F.Field.algebra self.now.columns) (stored_at F.Field.algebra right) j) }
     {
         let unknowns = self.solve::<F>(right, 0);
-        array::from_fn(|j| {
-            if j < self.size {
-                let scale = F::zero().difference(self.column(j));
-                scale.inverse().product(stored(&unknowns, j)).number()
-            } else {
-                0
-            }
+        numbers_of(self.size, |j| {
+            let scale = F::zero().difference(self.column(j));
+            scale.inverse().product(stored(&unknowns, j))
         })
     }
 }

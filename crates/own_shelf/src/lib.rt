@@ -7,6 +7,7 @@ ghost use Rattle.own_shelf.specs.Own.{own_contents, with_hole};
 
 use shelves::{Got, Grid, Outside, Shelf};
 
+// Symbols and marks are two vectors, since the grid takes them as two slices.
 #[derive(Drop)]
 pub struct OwnShelf<T> {
     grid: Grid,
@@ -35,6 +36,7 @@ impl<T: Copy> OwnShelf<T> {
     }
 }
 
+// A line for each call, as in the shelf over lent memory: vectors and lent slices are two types, and what they share is the grid.
 impl<T: Copy> Shelf for OwnShelf<T> {
     type Symbol = T;
 

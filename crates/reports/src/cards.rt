@@ -5,7 +5,7 @@ ghost use Rattle.reports.specs.Cards.{cards_of, numbers_of, listed, component_nu
 ghost use Rattle.rules.specs.Views.{seen};
 
 use algebra::Field;
-use rows::symbol_at;
+use rows::{Group, symbol_at};
 use rules::{Refusal, Sizes};
 use shelves::Shelf;
 use std::array;
@@ -39,35 +39,31 @@ impl Cards {
 }
 
 // The card that stands in a row below the tray's rows.
-fn read_card<S: Shelf>(shelf: &S, sizes: Sizes, row: usize) -> Card
+fn read_card<S: Shelf>(group: &Group<'_, S>, row: usize) -> Card
 where
     S::Symbol: Field,
-    ensures { row < sizes.data_rows + sizes.parity_rows → sizes.block_length ≤ 4096 → sizes.card_length ≤ 8 → result.numbers ≡ listed 8 (component_number S.Symbol.Field.algebra (seen S.Symbol.Field.meaning sizes (S.Shelf.contents shelf.now)) row) }
+    ensures { row < group.now.sizes.data_rows + group.now.sizes.parity_rows → group.now.sizes.block_length ≤ 4096 → group.now.sizes.card_length ≤ 8 → result.numbers ≡ listed 8 (component_number S.Symbol.Field.algebra (seen S.Symbol.Field.meaning group.now.sizes (S.Shelf.contents group.now.shelf.now)) row) }
 {
     Card {
-        numbers: array::from_fn(|c| {
-            if c < sizes.card_length {
-                symbol_at(shelf, row, sizes.block_length.saturating_add(c)).number()
-            } else {
-                0
-            }
+        numbers: rows::numbers_of(group.sizes.card_length, |c| {
+            symbol_at(group.shelf, row, group.sizes.card_place(c))
         }),
     }
 }
 
 // The cards that stand on a shelf.
-fn read_cards<S: Shelf>(shelf: &S, sizes: Sizes) -> Cards
+fn read_cards<S: Shelf>(group: &Group<'_, S>) -> Cards
 where
     S::Symbol: Field,
-    ensures { sizes.data_rows ≤ 64 → sizes.parity_rows ≤ 4 → sizes.block_length ≤ 4096 → sizes.card_length ≤ 8 → result ≡ cards_of S.Symbol.Field.algebra (seen S.Symbol.Field.meaning sizes (S.Shelf.contents shelf.now)) }
+    ensures { group.now.sizes.data_rows ≤ 64 → group.now.sizes.parity_rows ≤ 4 → group.now.sizes.block_length ≤ 4096 → group.now.sizes.card_length ≤ 8 → result ≡ cards_of S.Symbol.Field.algebra (seen S.Symbol.Field.meaning group.now.sizes (S.Shelf.contents group.now.shelf.now)) }
 {
-    let rows = sizes.rows();
+    let rows = group.sizes.rows();
     Cards {
         rows,
-        components: sizes.card_length,
+        components: group.sizes.card_length,
         cards: array::from_fn(|row| {
             if row < rows {
-                read_card(shelf, sizes, row)
+                read_card(group, row)
             } else {
                 Card { numbers: [0; 8] }
             }
@@ -83,5 +79,9 @@ where
 {
     let mut tray = Tray::over(shelf, sizes);
     tray.intake()?;
-    Ok(read_cards(&tray.into_shelf(), sizes))
+    let shelf = tray.into_shelf();
+    Ok(read_cards(&Group {
+        shelf: &shelf,
+        sizes,
+    }))
 }

@@ -26,7 +26,7 @@ pub enum InputRefusal {
 }
 
 impl InputRefusal {
-    // One of what a refusal tells, so it is no `From`.
+    // The number that the rules give it. A method, and no `From`: the refusals of a call, an image and an input are all asked for it in one way.
     pub fn number(self) -> u8
         ensures { result ≡ input_refusal_number self }
     {

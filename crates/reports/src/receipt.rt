@@ -22,10 +22,10 @@ fn sizes_of(head: &Head) -> Sizes
     ensures { result ≡ head_sizes head.now }
 {
     Sizes {
-        data_rows: head.data_rows as usize,
-        parity_rows: head.parity_rows as usize,
-        block_length: head.block_length as usize,
-        card_length: head.card_length as usize,
+        data_rows: usize::from(head.data_rows),
+        parity_rows: usize::from(head.parity_rows),
+        block_length: usize::from(head.block_length),
+        card_length: usize::from(head.card_length),
     }
 }
 
@@ -40,6 +40,7 @@ fn take_in_image(field: FieldKind, sizes: Sizes, bytes: &mut [u8]) -> Result<Car
 }
 
 // The receipt of an input. The tray is made over these bytes: where it is taken in, its cards are put there.
+#[tactic(auto, using(crate::proofs::Exact::receipt_exact))]
 pub fn receive(bytes: &mut [u8]) -> Result<Receipt, InputRefusal>
     ensures value { Received bytes.old result }
     ensures only { OnlyReceipt bytes.old result }

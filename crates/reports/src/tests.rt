@@ -1,5 +1,5 @@
 use super::*;
-use std::alloc::{AllocError, Global};
+use std::alloc::Global;
 use std::process::Abort;
 use std::test::Fail;
 
@@ -10,26 +10,17 @@ fn input(heap: Global, start: &[u8], length: usize) -> Result<Vec<u8>, Fail> {
     Ok(bytes)
 }
 
-// The text of an answer, whichever it is.
-fn text_of<T: fmt::Display + Drop>(
-    heap: Global,
-    answer: Result<T, InputRefusal>,
-) -> Result<String, AllocError> {
-    match answer {
-        Ok(value) => value.to_string(heap),
-        Err(refusal) => refusal.to_string(heap),
-    }
-}
-
-// The text of the report on these bytes, with zeros up to the length. It lends them, and a receipt takes them by `&mut`: so there are two of these.
-fn says(
+// Whether the text of an answer is this, whichever it is.
+fn says<T: fmt::Display + Drop>(
     rt: &impl Abort,
     heap: Global,
-    start: &[u8],
-    length: usize,
+    answer: Result<T, InputRefusal>,
     text: &str,
 ) -> Result<(), Fail> {
-    let said = text_of(heap, answer(&input(heap, start, length)?))?;
+    let said = match answer {
+        Ok(value) => value.to_string(heap)?,
+        Err(refusal) => refusal.to_string(heap)?,
+    };
     assert_eq!(rt; said.as_str(), text);
     Ok(())
 }
@@ -37,9 +28,24 @@ fn says(
 #[test]
 fn each_refusal_by_its_number(rt: HostRuntime) -> Result<(), Fail> {
     let heap = rt.alloc();
-    says(&rt, heap, &[1, 2, 2, 2, 0], 5, "image refused 21")?;
-    says(&rt, heap, &[3, 2, 2, 2, 0, 3], 46, "image refused 22")?;
-    says(&rt, heap, &[1, 2, 2, 2, 0, 3], 45, "image refused 23")
+    says(
+        &rt,
+        heap,
+        answer(&input(heap, &[1, 2, 2, 2, 0], 5)?),
+        "image refused 21",
+    )?;
+    says(
+        &rt,
+        heap,
+        answer(&input(heap, &[3, 2, 2, 2, 0, 3], 46)?),
+        "image refused 22",
+    )?;
+    says(
+        &rt,
+        heap,
+        answer(&input(heap, &[1, 2, 2, 2, 0, 3], 45)?),
+        "image refused 23",
+    )
 }
 
 #[test]
@@ -48,19 +54,27 @@ fn the_limit_of_the_input(rt: HostRuntime) -> Result<(), Fail> {
     says(
         &rt,
         heap,
-        &[1, 3, 2, 2, 25, 151],
-        65_536,
+        answer(&input(heap, &[1, 3, 2, 2, 25, 151], 65_536)?),
         "tray 1 3 2 6551 2",
     )?;
     says(
         &rt,
         heap,
-        &[1, 3, 2, 2, 25, 151],
-        65_537,
+        answer(&input(heap, &[1, 3, 2, 2, 25, 151], 65_537)?),
         "image refused 24",
     )?;
-    says(&rt, heap, &[], 65_536, "image refused 22")?;
-    says(&rt, heap, &[], 65_537, "image refused 24")
+    says(
+        &rt,
+        heap,
+        answer(&input(heap, &[], 65_536)?),
+        "image refused 22",
+    )?;
+    says(
+        &rt,
+        heap,
+        answer(&input(heap, &[], 65_537)?),
+        "image refused 24",
+    )
 }
 
 #[test]
@@ -69,47 +83,30 @@ fn sizes_in_the_order_of_the_line(rt: HostRuntime) -> Result<(), Fail> {
     says(
         &rt,
         heap,
-        &[2, 10, 4, 8, 1, 2],
-        6 + 14 * 266 * 4,
+        answer(&input(heap, &[2, 10, 4, 8, 1, 2], 6 + 14 * 266 * 4)?),
         "tray 2 10 4 258 8",
     )?;
     says(
         &rt,
         heap,
-        &[1, 0, 0, 255, 255, 255],
-        6,
+        answer(&input(heap, &[1, 0, 0, 255, 255, 255], 6)?),
         "tray 1 0 0 65535 255",
     )
-}
-
-// The text of the receipt of these bytes, with zeros up to the length.
-fn receipt_says(
-    rt: &impl Abort,
-    heap: Global,
-    start: &[u8],
-    length: usize,
-    text: &str,
-) -> Result<(), Fail> {
-    let said = text_of(heap, receive(&mut input(heap, start, length)?))?;
-    assert_eq!(rt; said.as_str(), text);
-    Ok(())
 }
 
 #[test]
 fn the_limit_of_what_is_received(rt: HostRuntime) -> Result<(), Fail> {
     let heap = rt.alloc();
-    receipt_says(
+    says(
         &rt,
         heap,
-        &[1, 3, 2, 2, 25, 151],
-        65_536,
+        receive(&mut input(heap, &[1, 3, 2, 2, 25, 151], 65_536)?),
         "tray 1 3 2 6551 2\nintake refused 1",
     )?;
-    receipt_says(
+    says(
         &rt,
         heap,
-        &[1, 3, 2, 2, 25, 151],
-        65_537,
+        receive(&mut input(heap, &[1, 3, 2, 2, 25, 151], 65_537)?),
         "image refused 24",
     )
 }
@@ -117,18 +114,16 @@ fn the_limit_of_what_is_received(rt: HostRuntime) -> Result<(), Fail> {
 #[test]
 fn sizes_beyond_the_limits(rt: HostRuntime) -> Result<(), Fail> {
     let heap = rt.alloc();
-    receipt_says(
+    says(
         &rt,
         heap,
-        &[1, 0, 0, 255, 255, 255],
-        6,
+        receive(&mut input(heap, &[1, 0, 0, 255, 255, 255], 6)?),
         "tray 1 0 0 65535 255\nintake refused 1",
     )?;
-    receipt_says(
+    says(
         &rt,
         heap,
-        &[1, 200, 2, 2, 0, 1],
-        6 + 202 * 3 * 2,
+        receive(&mut input(heap, &[1, 200, 2, 2, 0, 1], 6 + 202 * 3 * 2)?),
         "tray 1 200 2 1 2\nintake refused 1",
     )
 }
@@ -136,11 +131,10 @@ fn sizes_beyond_the_limits(rt: HostRuntime) -> Result<(), Fail> {
 #[test]
 fn holes_of_a_tray_that_fits(rt: HostRuntime) -> Result<(), Fail> {
     let heap = rt.alloc();
-    receipt_says(
+    says(
         &rt,
         heap,
-        &[2, 10, 4, 8, 1, 2],
-        6 + 14 * 266 * 4,
+        receive(&mut input(heap, &[2, 10, 4, 8, 1, 2], 6 + 14 * 266 * 4)?),
         "tray 2 10 4 258 8\nintake refused 7 0 0",
     )
 }
@@ -163,7 +157,7 @@ fn changed_says(
     if at < 46 {
         bytes[at] = byte;
     }
-    receipt_says(rt, heap, &bytes, 46, text)
+    says(rt, heap, receive(&mut input(heap, &bytes, 46)?), text)
 }
 
 #[test]
@@ -176,14 +170,17 @@ fn the_first_fault_by_row_and_place(rt: HostRuntime) -> Result<(), Fail> {
 #[test]
 fn a_counter_field_tray_taken_in(rt: HostRuntime) -> Result<(), Fail> {
     let heap = rt.alloc();
-    receipt_says(
+    says(
         &rt,
         heap,
-        &[
-            2, 1, 1, 3, 0, 3, 1, 1, 1, 0, 0, 0, 1, 1, 1, 0, 0, 0, 0, 0, 1, 0, 0, 2, 0, 0, 3, 0, 0,
-            0, 0, 0, 0, 0, 0, 0, 0, 0, 1, 0, 0, 2, 0, 0, 3,
-        ],
-        54,
+        receive(&mut input(
+            heap,
+            &[
+                2, 1, 1, 3, 0, 3, 1, 1, 1, 0, 0, 0, 1, 1, 1, 0, 0, 0, 0, 0, 1, 0, 0, 2, 0, 0, 3, 0,
+                0, 0, 0, 0, 0, 0, 0, 0, 0, 0, 1, 0, 0, 2, 0, 0, 3,
+            ],
+            54,
+        )?),
         "tray 2 1 1 3 3\nintake taken\nrow 0 card 6 34 262\nrow 1 card 6 34 262",
     )
 }

@@ -2,7 +2,7 @@
 use Rattle.std.proofs.Common.{◌≡◌, ℕ, ◌+◌, Bool, not, eqb, sym, ap, ◌∙◌, ap₂, add-one}
 use Rattle.algebra.specs.Algebra.{Field}
 use Rattle.algebra.specs.Theorems.{coefficient}
-use Rattle.rules.specs.Codes.{combination, component, differ}
+use Rattle.rules.specs.Codes.{combination}
 use Rattle.rules.specs.States.{misfit}
 use Rattle.rules.specs.Views.{element_at, seen}
 use Rattle.rules.specs.declared.Sizes.{Sizes}
@@ -20,11 +20,3 @@ module _ {X A : Type 0} (F : Field A) (meaning : X → A) (sizes : Sizes) (held 
   misfit_is i start t place row x y b there at xs ys e =
       ap (misfit F (seen meaning sizes held) i) (sym there)
       ∙ sym (ap not (e ∙ ap₂ (λ (v w : ℕ). eqb v w) (ap F.number xs) (ap F.number (ys ∙ ap (λ r. element_at F meaning held r place) at))))
-
-  -- whether a component is wrong, from what a program compared
-  pub wrong_is : (row c place : ℕ) (x y : A) (b : Bool) → place ≡ sizes.block_length + c
-      → x ≡ component F sizes.block_length (element_at F meaning held row) c → y ≡ element_at F meaning held row place
-      → b ≡ eqb (F.number x) (F.number y)
-      → differ F (component F sizes.block_length (element_at F meaning held row) c) (element_at F meaning held row (sizes.block_length + c)) ≡ not b
-  wrong_is row c place x y b at xs ys e =
-      sym (ap not (e ∙ ap₂ (λ (v w : ℕ). eqb v w) (ap F.number xs) (ap F.number (ys ∙ ap (element_at F meaning held row) at))))

@@ -1,6 +1,5 @@
 -- A signature, summed from its last place down.
-use Rattle.std.proofs.Common.{◌≡◌, ℕ, suc, ◌+◌, ◌-◌, ◌<◌, ◌≤◌, sym, ap, ◌∙◌, ap₂, add-zero, zero-add, arith}
-use native.Mathlib.Nat.{sub_self}
+use Rattle.std.proofs.Common.{◌≡◌, ℕ, suc, ◌+◌, ◌-◌, ◌<◌, ◌≤◌, sym, ap, ◌∙◌, ap₂, add-zero, arith}
 use Rattle.algebra.specs.Algebra.{Field, power}
 use Rattle.algebra.specs.Sum.{sum_to}
 use Rattle.algebra.proofs.Ring.{one-mul, mul_assoc}
@@ -10,9 +9,6 @@ module _ {A : Type 0} (F : Field A) (n : ℕ) (symbols : ℕ → A) (point : A) 
   -- the part of the sum from place t on, divided by the t-th power
   abbrev pub part : ℕ → A
   part t = sum_to F (n - t) (λ j. F.mul (power F point j) (symbols (t + j)))
-
-  pub part_none : part n ≡ F.zer
-  part_none = rw (sub_self n)
 
   pub part_more : (t : ℕ) → 0 < t → t ≤ n → F.add (symbols (t - 1)) (F.mul point (part t)) ≡ part (t - 1)
   part_more t h k =
@@ -24,6 +20,3 @@ module _ {A : Type 0} (F : Field A) (n : ℕ) (symbols : ℕ → A) (point : A) 
       sym (ap (λ v. sum_to F v (λ j. F.mul (power F point j) (symbols (t - 1 + j)))) e
       ∙ sum_first F (n - t) (λ j. F.mul (power F point j) (symbols (t - 1 + j)))
       ∙ ap₂ F.add first rest)
-
-  pub part_all : part 0 ≡ sum_to F n (λ j. F.mul (power F point j) (symbols j))
-  part_all = let e : n - 0 ≡ n = omega arith in rw e (sum_below F n _ _ (λ j l. ap (λ v. F.mul (power F point j) (symbols v)) (zero-add j)))

@@ -1,5 +1,4 @@
 mod Horner
-mod Reading
 mod Combining
 pub mod Carding
 mod Spans

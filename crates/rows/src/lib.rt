@@ -2,7 +2,7 @@
 // not fit, audits, and the putting of cards.
 #![tactic(auto)]
 
-ghost use Rattle.std.specs.Prelude.{◌≡◌, ℕ, ◌+◌, ◌^◌, ◌<◌, ◌≤◌, true, not, length, map, slice_index};
+ghost use Rattle.std.specs.Prelude.{◌≡◌, ℕ, ◌+◌, ◌-◌, ◌^◌, ◌<◌, ◌≤◌, true, not, length, map, min, slice_index};
 ghost use Rattle.std.specs.Option.{option_map};
 ghost use Rattle.algebra.specs.Theorems.{coefficient as coefficient_of};
 ghost use Rattle.rules.specs.Codes.{component, combination as combination_of, differ};
@@ -12,13 +12,13 @@ ghost use Rattle.rules.specs.Updates.{span};
 ghost use Rattle.rules.specs.Views.{element_at, seen};
 ghost use Rattle.shelves.specs.Contents.{is_hole};
 ghost use Rattle.rows.specs.Cards.{CardPut, CardsPut};
-ghost use Rattle.rows.specs.Shown.{shown};
+ghost use Rattle.rows.specs.Shown.{shown, SameGroup};
 ghost use Rattle.rows.specs.Weights.{Coefficients, element_of};
 ghost use Rattle.rules.specs.declared.Sizes.{Sizes as SizesOf};
 
 use algebra::Field;
 use rules::{Sizes, Verdict};
-use shelves::{Got, Shelf};
+use shelves::Shelf;
 
 // The symbol at a place, and zero where there is none.
 pub fn symbol_at<S: Shelf>(shelf: &S, row: usize, place: usize) -> S::Symbol
@@ -26,29 +26,10 @@ where
     S::Symbol: Field,
     ensures { S.Symbol.Field.meaning result ≡ element_at S.Symbol.Field.algebra S.Symbol.Field.meaning (S.Shelf.contents shelf.now) row place }
 {
-    match shelf.get(row, place) {
-        Got::Symbol(symbol) => symbol,
-        Got::Hole | Got::Outside => <S::Symbol>::zero(),
-    }
-}
-
-// A component of the card of a row's block, worked afresh: one product for each symbol.
-pub fn fresh_component<S: Shelf>(
-    shelf: &S,
-    row: usize,
-    block_length: usize,
-    index: usize,
-) -> S::Symbol
-where
-    S::Symbol: Field,
-    ensures { S.Symbol.Field.meaning result ≡ component S.Symbol.Field.algebra block_length (element_at S.Symbol.Field.algebra S.Symbol.Field.meaning (S.Shelf.contents shelf.now) row) index }
-{
-    let point: S::Symbol = algebra::power_of_alpha(index);
-    let mut sum: S::Symbol = <S::Symbol>::zero();
-    for place in (0..block_length).rev() {
-        sum = symbol_at(shelf, row, place).sum(point.product(sum));
-    }
-    sum
+    shelf
+        .get(row, place)
+        .symbol()
+        .unwrap_or(<S::Symbol>::zero())
 }
 
 // The element of a number, and zero where there is none.
@@ -65,7 +46,6 @@ pub fn numbers_of<F: Field, E: Fn(usize) -> F, const N: usize>(
     count: usize,
     element: E,
 ) -> [usize; N]
-    requires room { N < 2 ^ 60 }
     requires calls { (i : ℕ) → i < N → E.pre element i }
     ensures numbers { (i : ℕ) → i < count → i < N → (x : F) × E.post element i x × (slice_index result i ≡ F.Field.algebra.number (F.Field.meaning x)) }
     ensures zeros { (i : ℕ) → count ≤ i → i < N → slice_index result i ≡ 0 }
@@ -77,7 +57,8 @@ pub fn numbers_of<F: Field, E: Fn(usize) -> F, const N: usize>(
     )
 }
 
-// The coefficient of parity row i and data row j, where the field has their elements.
+// The coefficient of parity row i and data row j, where the field has their elements. That i is below 4, and other limits of the rows, are premises here and
+// above: calls look at no other rows, and a type for them would ask more of callers.
 pub fn coefficient<F: Field>(i: usize, j: usize) -> F
     ensures { i < 4 → j < 64 → 4 + j < F.Field.algebra.size → F.Field.meaning result ≡ coefficient_of F.Field.algebra i j }
 {
@@ -98,6 +79,7 @@ pub fn coefficient_row<F: Field>(i: usize, data_rows: usize) -> [usize; 64]
 }
 
 // What a parity row with these coefficients holds at a place, from the data rows.
+// The array as coefficient_row makes it, and how many of it count: it is cut here, so that no caller has to.
 pub fn combination<S: Shelf>(
     shelf: &S,
     coefficients: &[usize; 64],
@@ -122,49 +104,7 @@ where
     S::Symbol: Field,
     ensures { result ≡ is_hole ((S.Shelf.contents shelf.now).at row place) }
 {
-    !matches!(shelf.get(row, place), Got::Symbol(_))
-}
-
-// The first place that cannot be read, by row and then by place.
-pub fn first_hole<S: Shelf>(shelf: &S, rows: usize, places: usize) -> Option<(usize, usize)>
-where
-    S::Symbol: Field,
-    ensures { result ≡ lowest_pair rows places (λ row place. is_hole ((S.Shelf.contents shelf.now).at row place)) }
-{
-    first_hole_from(shelf, rows, 0, places)
-}
-
-// The same of a stretch of so many places that is alike in all rows. The place is counted from the start of the stretch.
-// By the project's rules two loops, left by a label, as in first_misfit_from.
-pub fn first_hole_from<S: Shelf>(
-    shelf: &S,
-    rows: usize,
-    start: usize,
-    places: usize,
-) -> Option<(usize, usize)>
-where
-    S::Symbol: Field,
-    ensures { start + places < 2 ^ 64 → result ≡ lowest_pair rows places (λ row t. is_hole ((S.Shelf.contents shelf.now).at row (start + t))) }
-{
-    let mut found = None;
-    'rows: for row in 0..rows {
-        for offset in 0..places {
-            if unreadable(shelf, row, start.saturating_add(offset)) {
-                found = Some((row, offset));
-                break 'rows;
-            }
-        }
-    }
-    found
-}
-
-// The lowest place of a row that cannot be read.
-fn lowest_hole<S: Shelf>(shelf: &S, row: usize, places: usize) -> Option<usize>
-where
-    S::Symbol: Field,
-    ensures { result ≡ lowest places (λ place. is_hole ((S.Shelf.contents shelf.now).at row place)) }
-{
-    (0..places).find(|place| unreadable(shelf, row, *place))
+    shelf.get(row, place).symbol().is_none()
 }
 
 // Copies symbols of a row into a buffer, from a start on.
@@ -178,29 +118,52 @@ where
     }
 }
 
-// The rows of a tray: a shelf, read by the tray's sizes.
+// The rows of a tray, to be read: a shelf on loan, and the tray's sizes.
+// A stretch of places goes in by its start and its length, since what is found in it is counted from its start: a range would be taken apart for both.
 // That the sizes keep their limits is a premise of the clauses: a type that kept them would ask more of callers than the calls do.
 #[derive(Drop)]
-pub struct Group<S> {
-    pub shelf: S,
+pub struct Group<'a, S> {
+    pub shelf: &'a S,
     pub sizes: Sizes,
 }
 
-impl<S: Shelf> Group<S>
+impl<'a, S: Shelf> Group<'a, S>
 where
     S::Symbol: Field,
 {
-    // The first place of the first parity row that does not fit, by parity row and then by place of the block. The parity row is named by its index i, not
-    // by its row k + i.
-    pub fn first_misfit(&self) -> Option<(usize, usize)>
-        ensures { self.now.sizes.parity_rows ≤ 4 → self.now.sizes.data_rows ≤ 64 → self.now.sizes.data_rows + 4 ≤ S.Symbol.Field.algebra.size → result ≡ lowest_pair self.now.sizes.parity_rows self.now.sizes.block_length (misfit S.Symbol.Field.algebra (shown S.Shelf.contents S.Symbol.Field.meaning self.now)) }
+    // A component of the card of a row's block, worked afresh: one product for each symbol.
+    pub fn fresh_component(&self, row: usize, index: usize) -> S::Symbol
+        ensures { S.Symbol.Field.meaning result ≡ component S.Symbol.Field.algebra self.now.sizes.block_length (element_at S.Symbol.Field.algebra S.Symbol.Field.meaning (S.Shelf.contents self.now.shelf.now) row) index }
     {
-        self.first_misfit_from(0, self.sizes.block_length)
+        let point: S::Symbol = algebra::power_of_alpha(index);
+        let mut sum: S::Symbol = <S::Symbol>::zero();
+        for place in (0..self.sizes.block_length).rev() {
+            sum = symbol_at(self.shelf, row, place).sum(point.product(sum));
+        }
+        sum
     }
 
-    // The same of a stretch of places. The place is counted from the start of the stretch.
+    // The first place that cannot be read, by row and then by place, in a stretch of so many places that is alike in all rows. The place is counted from the
+    // start of the stretch.
+    pub fn first_hole(&self, start: usize, places: usize) -> Option<(usize, usize)>
+        ensures { start + places < 2 ^ 64 → result ≡ lowest_pair (min (self.now.sizes.data_rows + self.now.sizes.parity_rows) (2 ^ 64 - 1)) places (λ row t. is_hole ((S.Shelf.contents self.now.shelf.now).at row (start + t))) }
+    {
+        (0..self.sizes.rows()).find_map(|row| self
+            .lowest_hole(row, start, places)
+            .map(|t| (row, t)))
+    }
+
+    // The lowest place of a row's stretch that cannot be read, counted from the start of the stretch.
+    fn lowest_hole(&self, row: usize, start: usize, places: usize) -> Option<usize>
+        ensures { start + places < 2 ^ 64 → result ≡ lowest places (λ t. is_hole ((S.Shelf.contents self.now.shelf.now).at row (start + t))) }
+    {
+        (0..places).find(|t| unreadable(self.shelf, row, start.saturating_add(*t)))
+    }
+
+    // The first place of the first parity row that does not fit, by parity row and then by place, in a stretch of so many places. The parity row is named by
+    // its index i, not by its row k + i, and the place is counted from the start of the stretch.
     // By the project's rules two loops, left by a label.
-    pub fn first_misfit_from(&self, start: usize, places: usize) -> Option<(usize, usize)>
+    pub fn first_misfit(&self, start: usize, places: usize) -> Option<(usize, usize)>
         ensures { start + places < 2 ^ 64 → self.now.sizes.parity_rows ≤ 4 → self.now.sizes.data_rows ≤ 64 → self.now.sizes.data_rows + 4 ≤ S.Symbol.Field.algebra.size → result ≡ lowest_pair self.now.sizes.parity_rows places (λ i t. misfit S.Symbol.Field.algebra (shown S.Shelf.contents S.Symbol.Field.meaning self.now) i (start + t)) }
     {
         let mut found = None;
@@ -208,12 +171,8 @@ where
             let coefficients = coefficient_row::<S::Symbol>(i, self.sizes.data_rows);
             for t in 0..places {
                 let place = start.saturating_add(t);
-                let fitting = combination(&self.shelf, &coefficients, self.sizes.data_rows, place);
-                if !fitting.equals(symbol_at(
-                    &self.shelf,
-                    self.sizes.data_rows.saturating_add(i),
-                    place,
-                )) {
+                let fitting = combination(self.shelf, &coefficients, self.sizes.data_rows, place);
+                if !fitting.equals(symbol_at(self.shelf, self.sizes.parity_row(i), place)) {
                     found = Some((i, t));
                     break 'rows;
                 }
@@ -224,15 +183,15 @@ where
 
     // Whether a component of a row's card differs from the fresh one.
     fn wrong_component(&self, row: usize, c: usize) -> bool
-        ensures { self.now.sizes.block_length + c < 2 ^ 64 → result ≡ differ S.Symbol.Field.algebra (component S.Symbol.Field.algebra self.now.sizes.block_length (element_at S.Symbol.Field.algebra S.Symbol.Field.meaning (S.Shelf.contents self.now.shelf) row) c) (element_at S.Symbol.Field.algebra S.Symbol.Field.meaning (S.Shelf.contents self.now.shelf) row (self.now.sizes.block_length + c)) }
+        ensures { self.now.sizes.block_length + c < 2 ^ 64 → result ≡ differ S.Symbol.Field.algebra (component S.Symbol.Field.algebra self.now.sizes.block_length (element_at S.Symbol.Field.algebra S.Symbol.Field.meaning (S.Shelf.contents self.now.shelf.now) row) c) (element_at S.Symbol.Field.algebra S.Symbol.Field.meaning (S.Shelf.contents self.now.shelf.now) row (self.now.sizes.block_length + c)) }
     {
-        let fresh = fresh_component(&self.shelf, row, self.sizes.block_length, c);
-        !fresh.equals(symbol_at(&self.shelf, row, self.sizes.block_length.saturating_add(c)))
+        let fresh = self.fresh_component(row, c);
+        !fresh.equals(symbol_at(self.shelf, row, self.sizes.card_place(c)))
     }
 
     // The lowest component of a row's card that differs from the fresh one.
     fn lowest_wrong_component(&self, row: usize) -> Option<usize>
-        ensures { self.now.sizes.block_length + self.now.sizes.card_length < 2 ^ 64 → result ≡ lowest self.now.sizes.card_length (λ c. differ S.Symbol.Field.algebra (component S.Symbol.Field.algebra self.now.sizes.block_length (element_at S.Symbol.Field.algebra S.Symbol.Field.meaning (S.Shelf.contents self.now.shelf) row) c) (element_at S.Symbol.Field.algebra S.Symbol.Field.meaning (S.Shelf.contents self.now.shelf) row (self.now.sizes.block_length + c))) }
+        ensures { self.now.sizes.block_length + self.now.sizes.card_length < 2 ^ 64 → result ≡ lowest self.now.sizes.card_length (λ c. differ S.Symbol.Field.algebra (component S.Symbol.Field.algebra self.now.sizes.block_length (element_at S.Symbol.Field.algebra S.Symbol.Field.meaning (S.Shelf.contents self.now.shelf.now) row) c) (element_at S.Symbol.Field.algebra S.Symbol.Field.meaning (S.Shelf.contents self.now.shelf.now) row (self.now.sizes.block_length + c))) }
     {
         (0..self.sizes.card_length).find(|c| self.wrong_component(row, *c))
     }
@@ -241,8 +200,7 @@ where
     pub fn audit(&self, row: usize) -> Verdict
         ensures { fits S.Symbol.Field.algebra (shown S.Shelf.contents S.Symbol.Field.meaning self.now) ≡ true → result ≡ audited S.Symbol.Field.algebra (shown S.Shelf.contents S.Symbol.Field.meaning self.now) row }
     {
-        let places = self.sizes.places();
-        if let Some(place) = lowest_hole(&self.shelf, row, places) {
+        if let Some(place) = self.lowest_hole(row, 0, self.sizes.places()) {
             return Verdict::Hole(place);
         }
         match self.lowest_wrong_component(row) {
@@ -255,34 +213,50 @@ where
     pub fn first_unsound_parity(&self) -> Option<(usize, Verdict)>
         ensures { fits S.Symbol.Field.algebra (shown S.Shelf.contents S.Symbol.Field.meaning self.now) ≡ true → result ≡ option_map (λ i. (i, audited S.Symbol.Field.algebra (shown S.Shelf.contents S.Symbol.Field.meaning self.now) (self.now.sizes.data_rows + i))) (lowest self.now.sizes.parity_rows (λ i. not (sound S.Symbol.Field.algebra (shown S.Shelf.contents S.Symbol.Field.meaning self.now) (self.now.sizes.data_rows + i)))) }
     {
-        for i in 0..self.sizes.parity_rows {
-            let verdict = self.audit(self.sizes.data_rows.saturating_add(i));
-            if !verdict.is_sound() {
-                return Some((i, verdict));
-            }
+        (0..self.sizes.parity_rows).find_map(|i| {
+            let verdict = self.audit(self.sizes.parity_row(i));
+            (!verdict.is_sound()).then_some((i, verdict))
+        })
+    }
+}
+
+// The rows of a tray, to be put to: a shelf on loan, and the tray's sizes.
+#[derive(Drop)]
+pub struct GroupMut<'a, S> {
+    pub shelf: &'a mut S,
+    pub sizes: Sizes,
+}
+
+impl<'a, S: Shelf> GroupMut<'a, S>
+where
+    S::Symbol: Field,
+{
+    // The same rows, to be read.
+    pub fn read(&self) -> Group<'_, S>
+        ensures shelf { result.shelf.now ≡ self.now.shelf.now }
+        ensures sizes { result.sizes ≡ self.now.sizes }
+    {
+        Group {
+            shelf: self.shelf,
+            sizes: self.sizes,
         }
-        None
     }
 
     // Puts the card of one row, worked afresh.
     pub fn put_card(&mut self, row: usize)
-        ensures sizes { self.new.sizes ≡ self.old.sizes }
-        ensures cards { CardPut S.Symbol.Field.algebra S.Symbol.Field.meaning self.old.sizes row (S.Shelf.contents self.old.shelf) (S.Shelf.contents self.new.shelf) }
+        ensures same { SameGroup self.old self.new }
+        ensures cards { CardPut S.Symbol.Field.algebra S.Symbol.Field.meaning self.old.sizes row (S.Shelf.contents self.old.shelf.now) (S.Shelf.contents self.new.shelf.now) }
     {
         for index in 0..self.sizes.card_length {
-            let component = fresh_component(&self.shelf, row, self.sizes.block_length, index);
-            let _ = self.shelf.put(
-                row,
-                self.sizes.block_length.saturating_add(index),
-                component,
-            );
+            let component = self.read().fresh_component(row, index);
+            let _ = self.shelf.put(row, self.sizes.card_place(index), component);
         }
     }
 
     // Puts the card of every row, worked afresh.
     pub fn put_cards(&mut self)
-        ensures sizes { self.new.sizes ≡ self.old.sizes }
-        ensures cards { CardsPut S.Symbol.Field.algebra S.Symbol.Field.meaning self.old.sizes (S.Shelf.contents self.old.shelf) (S.Shelf.contents self.new.shelf) }
+        ensures same { SameGroup self.old self.new }
+        ensures cards { CardsPut S.Symbol.Field.algebra S.Symbol.Field.meaning self.old.sizes (S.Shelf.contents self.old.shelf.now) (S.Shelf.contents self.new.shelf.now) }
     {
         for row in 0..self.sizes.rows() {
             self.put_card(row);

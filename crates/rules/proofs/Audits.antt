@@ -26,9 +26,6 @@ module _ {X : Type 0} (F : Field X) where
       few.differs (same_block F n F.α (λ i j h l. F.α_powers i j (omega arith) (omega arith)) m few.places few.at_most f g few.elsewhere same few.changed few.below)
 
   module _ (s t : State X) (row : ℕ) where
-    same_symbol : (place : ℕ) → cell t row place ≡ cell s row place → symbol_at F t row place ≡ symbol_at F s row place
-    same_symbol place e = ap (symbol_or F.zer) e
-
     -- two whole rows with the same card have blocks that do not differ so little
     whole_alike : n s ≤ F.reach → Whole F (n s) (m s) (cell s row) → Whole F (n s) (m s) (cell t row)
         → ((place : ℕ) → n s ≤ place → place < n s + m s → cell t row place ≡ cell s row place)

@@ -18,4 +18,5 @@ pub mod Parity
 pub mod Refusals
 pub mod Answered
 pub mod Loops
+pub mod Mapped
 pub mod Going

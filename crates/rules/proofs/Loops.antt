@@ -1,16 +1,8 @@
--- For code: what loops find is what the definitions name, a walk beyond the rows finds a hole, and a read keeps its buffer's length.
-use Rattle.std.proofs.Common.{◌≡◌, ℕ, zero, suc, ◌+◌, ◌<◌, ◌≤◌, Bool, true, false, List, length, Some, None, Option, MatchOption, sym, refl, ap, inl, inr, arith}
-use Rattle.std.proofs.lemmas.Bool.{both_ways, cases_order, and_left, le-ltb}
-use Rattle.algebra.specs.Algebra.{Field}
-use Rattle.shelves.specs.Contents.{is_hole}
+-- For code: what loops find is what the definitions name.
+use Rattle.std.proofs.Common.{◌≡◌, ℕ, ◌<◌, ◌≤◌, Bool, true, false, Some, None, Option, MatchOption, sym, refl, ap, inl, inr, arith}
+use Rattle.std.proofs.lemmas.Bool.{both_ways, cases_order}
 use Rattle.rules.specs.Search.{lowest, lowest_pair}
-use Rattle.rules.specs.States.{State, k, p, n, m, cell, fits, audited}
-use Rattle.rules.specs.Calls.{read, Answer, buffer_after}
-use Rattle.rules.specs.Updates.{span}
-use Rattle.rules.specs.Promises.{Promise, rejected, accepted, did_read}
-use Rattle.rules.specs.declared.Verdict.TheVariants.{Hole}
 use Rattle.rules.proofs.Found.{Found, FoundPair, found_lowest, found_lowest_pair, none_lowest}
-use Rattle.rules.proofs.Rows.{fitting}
 
 -- a loop left at i
 pub lowest_at : (bound : ℕ) (test : ℕ → Bool) (i : ℕ) → i < bound → test i ≡ true → ((j : ℕ) → j < i → test j ≡ false) → lowest bound test ≡ Some i
@@ -59,19 +51,3 @@ module _ (rows places : ℕ) (test : ℕ → ℕ → Bool) where
       go : (o : Option (ℕ × ℕ)) → FoundPair test places 0 rows o → o ≡ None
       go None f = refl
       go (Some (r, t)) f = absurd (both_ways _ (none r t f.1 f.2) f.3)
-
--- no run walks there, but a promise speaks of it
-pub beyond_verdict : {X : Type 0} (F : Field X) (s : State X) (row : ℕ) → fits F s ≡ true → k s + p s ≤ row → audited F s row ≡ Hole 0
-beyond_verdict F s row fit out =
-    let f = fitting F s fit in
-    rw (lowest_at (n s + m s) (λ place. is_hole (cell s row place)) 0 (omega arith)
-    (s.contents.beyond row 0 (and_left _ _ (le-ltb row _ (omega (arith, f.rows))))) (λ j h. absurd (omega arith)))
-
-span_length : {X : Type 0} (F : Field X) (s : State X) (row start count : ℕ) → length (span F s row start count) ≡ count
-span_length F s row start zero = refl
-span_length F s row start (suc count) = ap suc (span_length F s row (start + 1) count)
-
-pub buffer_length : {X : Type 0} (F : Field X) (s s' : State X) (row start : ℕ) (old : List X) (answer : Answer X) → Promise F s (read row start (length old)) answer s'
-    → length (buffer_after old answer) ≡ length old
-buffer_length F s s' row start old answer (rejected r line none) = refl
-buffer_length F s s' row start old answer (accepted none (did_read _ _ _)) = span_length F s row start (length old)

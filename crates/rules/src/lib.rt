@@ -46,6 +46,20 @@ impl Sizes {
     {
         self.block_length.saturating_add(self.card_length)
     }
+
+    // The row of parity row i; the largest number, where the sum overflows.
+    pub fn parity_row(&self, i: usize) -> usize
+        ensures { result ≡ min (self.now.data_rows + i) (2 ^ 64 - 1) }
+    {
+        self.data_rows.saturating_add(i)
+    }
+
+    // The place of a component of the card; the largest number, where the sum overflows.
+    pub fn card_place(&self, component: usize) -> usize
+        ensures { result ≡ min (self.now.block_length + component) (2 ^ 64 - 1) }
+    {
+        self.block_length.saturating_add(component)
+    }
 }
 
 // What an audit finds in one row.
@@ -124,6 +138,7 @@ impl Sheet {
     }
 
     // How many of the rows were entered as sound, and how many were not.
+    #[tactic(auto, using(crate::proofs::Counted::counted_not))]
     pub fn totals(&self, rows: usize) -> (usize, usize)
         ensures sound { result.0 ≡ counted rows (λ r. entry_sound (entry_at self.now r)) }
         ensures others { result.1 ≡ counted rows (λ r. not (entry_sound (entry_at self.now r))) }

@@ -1,5 +1,5 @@
 -- What a shelf means: its sizes, and at each place a symbol or a hole.
-use Rattle.std.specs.Prelude.{◌≡◌, ℕ, Bool, true, false, cond, ◌&&◌, ◌==◌, nat_lt, Ok, Err, Result}
+use Rattle.std.specs.Prelude.{◌≡◌, ℕ, Bool, true, false, cond, ◌&&◌, ◌==◌, nat_lt, Ok, Err, Result, Option, Some, None}
 use Rattle.std.proofs.Common.{ap}
 use Rattle.shelves.specs.declared.Got.{Got}
 use Rattle.shelves.specs.declared.Got.TheVariants.{Symbol, Hole, Outside}
@@ -44,6 +44,12 @@ inside s row place = within s.rows s.places row place
 abbrev pub got : {A : Type 0} → Cell A → Got A
 got (symbol x) = Symbol x
 got hole = Hole
+
+-- the symbol that a get answered, where it answered one
+abbrev pub symbol_of : {A : Type 0} → Got A → Option A
+symbol_of (Symbol x) = Some x
+symbol_of Hole = None
+symbol_of Outside = None
 
 abbrev pub get_answer : {A : Type 0} → Contents A → ℕ → ℕ → Got A
 get_answer s row place = cond (inside s row place) (got (s.at row place)) Outside

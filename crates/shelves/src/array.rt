@@ -6,6 +6,7 @@ ghost use Rattle.shelves.specs.Memory.{memory};
 
 use crate::{Got, Grid, Outside, Shelf};
 
+// Symbols and marks are two slices, side by side, as the rules have them lent.
 #[derive(Drop)]
 pub struct ArrayShelf<'a, T> {
     grid: Grid,
@@ -31,6 +32,7 @@ impl<'a, T: Copy> ArrayShelf<'a, T> {
     }
 }
 
+// A line for each call, as in the shelf over memory of its own: lent slices and vectors are two types, and what they share is the grid.
 impl<'a, T: Copy> Shelf for ArrayShelf<'a, T> {
     type Symbol = T;
 

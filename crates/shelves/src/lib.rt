@@ -2,7 +2,7 @@
 #![tactic(auto)]
 
 ghost use Rattle.std.specs.Prelude.{◌≡◌};
-ghost use Rattle.shelves.specs.Contents.{Contents, get_answer, put_answer, after_put};
+ghost use Rattle.shelves.specs.Contents.{Contents, symbol_of, get_answer, put_answer, after_put};
 
 mod array;
 mod memory;
@@ -11,11 +11,24 @@ pub use array::ArrayShelf;
 pub use memory::Grid;
 
 // What get answers: the symbol at a place, a hole where it cannot be read, or that the place is beyond the sizes.
+// Three answers side by side, as the rules have them: as a Result of an Option each reader would match twice.
 #[derive(Clone, Copy, PartialEq, Eq, Debug)]
 pub enum Got<T> {
     Symbol(T),
     Hole,
     Outside,
+}
+
+impl<T> Got<T> {
+    // The symbol, where there is one to read.
+    pub fn symbol(self) -> Option<T>
+        ensures { result ≡ symbol_of self }
+    {
+        match self {
+            Got::Symbol(symbol) => Some(symbol),
+            Got::Hole | Got::Outside => None,
+        }
+    }
 }
 
 // Why put refuses: the place is beyond the sizes.
@@ -24,6 +37,7 @@ pub struct Outside;
 
 // A drive, by its contents: a number of rows, a number of places in each, and at each place a symbol or a hole.
 // Nothing but a put in range changes the contents, and that changes its own place alone.
+// The calls take a row and a place, as the rules name them: a pair would be made at each call only to be taken apart.
 pub trait Shelf {
     type Symbol;
 

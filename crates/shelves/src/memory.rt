@@ -48,6 +48,7 @@ impl Grid {
         }
     }
 
+    #[tactic(auto, using(crate::proofs::Arrays::got_symbol))]
     pub fn get<T: Copy>(self, symbols: &[T], marks: &[u8], row: usize, place: usize) -> Got<T>
         ensures { result ≡ get_answer (memory self.rows self.places symbols.now marks.now) row place }
     {

@@ -1,7 +1,8 @@
 -- From what a call tested to its promise.
-use Rattle.std.proofs.Common.{◌≡◌, ℕ, ◌+◌, ◌-◌, ◌^◌, min, ◌<◌, ◌≤◌, true, false, not, List, length, Some, None, Option, Ok, Err, sym, refl, ap, ◌∙◌, subst, subst₂, ap₂, arith, le-leb, set}
+use Rattle.std.proofs.Common.{◌≡◌, ℕ, ◌+◌, ◌-◌, ◌^◌, min, ◌<◌, ◌≤◌, true, false, not, List, length, Some, None, Option, Ok, Err, sym, refl, ap, ◌∙◌, subst, ap₂, arith, le-leb, set, zero-add, cond, Bool, Result}
 use borrow.Author.Tests.{lt-leb}
 use Rattle.std.specs.Option.{option_map}
+use Rattle.std.specs.Result.{is_ok}
 use Rattle.std.specs.Prelude.{map}
 use Rattle.std.proofs.lemmas.Bool.{not-false}
 use Rattle.std.proofs.lemmas.Bool.Decides.{nat_tests}
@@ -10,7 +11,7 @@ use Rattle.algebra.specs.Algebra.{Field}
 use Rattle.algebra.proofs.Cases.{by_cases}
 use Rattle.shelves.specs.Contents.{Contents, is_hole, within}
 use Rattle.shelves.proofs.Contents.{hole_is, same_contents}
-use Rattle.tray.specs.State.{on_contents, ExchangedAs}
+use Rattle.tray.specs.State.{on_contents, answer_of, ExchangedAs, stretch_hole, stretch_misfit, stretch_found, stretch_checked, span_checked}
 use Rattle.rules.specs.Calls.{Call, fit, intake, audit, read, write, cross, begin, step, totals, record_of, first, done, judged, copied, counts, entry_is, lowest_is, refused, wants_intake}
 use Rattle.rules.specs.Promises.{Promise, accepted, did_fit, did_intake, did_audit, did_read, did_write, did_cross, did_begin, did_step, did_totals, did_record, did_first}
 use Rattle.rules.specs.Search.{lowest, lowest_pair, counted}
@@ -19,25 +20,19 @@ use Rattle.rules.specs.Updates.{next_row}
 use Rattle.rules.specs.States.{State, unread, k, p, n, m, cell, fits, audited, sound, misfit, with_cells}
 use Rattle.rules.specs.Updates.{allowed, carded, span, written, entry_of, entry_sound, entry_bad, walking, over}
 use Rattle.rules.specs.declared.Action.TheVariants.{Begin, Step, Totals}
+use Rattle.rules.specs.declared.Entry.{Entry}
 use Rattle.rules.specs.declared.Refusal.{Refusal}
 use Rattle.rules.specs.declared.Refusal.TheVariants.{DoesNotFit, NotTakenIn, TakenInAlready, NoSuchRow, BadSpan, Unsound, Unreadable, Misfit, WrongPhase, StillWalking}
 use Rattle.rules.specs.declared.Round.{Round}
 use Rattle.rules.specs.declared.Round.TheVariants.{Resting, Walking, Over}
 use Rattle.rules.specs.declared.Sheet.{Sheet}
 use Rattle.rules.specs.declared.Verdict.{Verdict}
-use Rattle.rules.specs.Views.{seen, seen_cell, same_hole}
+use Rattle.rules.specs.Views.{seen, same_hole}
 use Rattle.rules.specs.declared.Sizes.{Sizes}
 use Rattle.writes.specs.Steps.{Readable, Writable}
 use Rattle.rules.proofs.Found.{lowest_none, lowest_pair_alike}
 use Rattle.rules.proofs.Rows.{fitting, sound_means}
 use Rattle.rules.proofs.Refusals.{unrefused, refused_promise, walks_at}
-
--- the first hole of some places, as code finds it on the shelf, is that of the state
-pub places_holes : {X A : Type 0} (meaning : X → A) (held : Contents X) (rows rows' places : ℕ) (at : ℕ → ℕ) (o : Option (ℕ × ℕ)) → rows' ≡ rows
-    → o ≡ lowest_pair rows' places (λ r t. is_hole (held.at r (at t))) → lowest_pair rows places (λ r t. is_hole (seen_cell meaning (held.at r (at t)))) ≡ o
-places_holes meaning held rows rows' places at o all found =
-    lowest_pair_alike rows places _ _ (λ r t h l. same_hole meaning (held.at r (at t)))
-    ∙ ap (λ v. lowest_pair v places (λ r t. is_hole (held.at r (at t)))) (sym all) ∙ sym found
 
 -- what a search found, of an option that also says something of it
 pub found_with : {B : Type 0} (f : ℕ → B) (o : Option ℕ) (i : ℕ) (v : B) → option_map {U = ℕ × B} (λ i. (i, f i)) o ≡ Some (i, v) → (o ≡ Some i) × (v ≡ f i)
@@ -51,8 +46,22 @@ pub none_with : {B : Type 0} (f : ℕ → B) (o : Option ℕ) → option_map {U 
 none_with f None e = refl
 none_with f (Some j) e = absurd cc
 
--- a sound row of a tray that fits has no hole
+-- as many elements as symbols
+pub mapped_length : {X B : Type 0} (meaning : X → B) (xs : List X) → length (map meaning xs) ≡ length xs
+mapped_length meaning xs = length-map xs meaning
+
+-- a tray that fits, over a shelf
 module _ {X A : Type 0} (F : Field A) (meaning : X → A) (sizes : Sizes) (held : Contents X) (fit : fits F (seen meaning sizes held) ≡ true) where
+  -- the first hole of a stretch, as code finds it on the shelf, is that of the state
+  pub holes_found : (start places : ℕ) (o : Option (ℕ × ℕ)) → o ≡ lowest_pair (min (sizes.data_rows + sizes.parity_rows) (2 ^ 64 - 1)) places (λ r t. is_hole (held.at r (start + t)))
+      → stretch_hole F (seen meaning sizes held) start places ≡ o
+  holes_found start places o found =
+      let f = fitting F (seen meaning sizes held) fit in
+      let all : sizes.data_rows + sizes.parity_rows ≡ min (sizes.data_rows + sizes.parity_rows) (2 ^ 64 - 1) = omega arith in
+      lowest_pair_alike (sizes.data_rows + sizes.parity_rows) places _ _ (λ r t h l. same_hole meaning (held.at r (start + t)))
+      ∙ ap (λ v. lowest_pair v places (λ r t. is_hole (held.at r (start + t)))) all ∙ sym found
+
+  -- a sound row has no hole
   pub sound_readable : (row : ℕ) → row < sizes.data_rows + sizes.parity_rows → sound F (seen meaning sizes held) row ≡ true → Readable F meaning sizes held row
   sound_readable row h e = record {
     fitting = fit;
@@ -69,11 +78,16 @@ module _ {X A : Type 0} (F : Field A) (meaning : X → A) (sizes : Sizes) (held 
     parity = λ i l. sound_readable (sizes.data_rows + i) (omega arith) (not-false _ (lowest_none sizes.parity_rows _ none i l));
   }
 
+-- the number that an accepted action answers
+abbrev pub value : Result ℕ Refusal → ℕ
+value (Ok x) = x
+value (Err q) = 0
+
 -- what an action of a round met, by its answer
-began : (r : Round) (rows x : ℕ) → turn_answer r Begin rows ≡ Ok x → (walks_at r ≡ None) × (turned r Begin rows ≡ Walking 0)
-began Resting rows x e = (refl, refl)
-began (Walking row) rows x e = absurd cc
-began Over rows x e = (refl, refl)
+began : (r : Round) (rows : ℕ) → is_ok (turn_answer r Begin rows) ≡ true → (walks_at r ≡ None) × (turned r Begin rows ≡ Walking 0)
+began Resting rows e = (refl, refl)
+began (Walking row) rows e = absurd cc
+began Over rows e = (refl, refl)
 
 not_begun : (r : Round) (rows : ℕ) (q : Refusal) → turn_answer r Begin rows ≡ Err q → (row : ℕ) × (r ≡ Walking row) × (q ≡ StillWalking row) × (turned r Begin rows ≡ r)
 not_begun Resting rows q e = absurd cc
@@ -90,10 +104,10 @@ not_stepped Resting rows q e = (refl, cc, refl)
 not_stepped (Walking row) rows q e = absurd cc
 not_stepped Over rows q e = (refl, cc, refl)
 
-totalled : (r : Round) (rows x : ℕ) → turn_answer r Totals rows ≡ Ok x → (over r ≡ true) × (x ≡ rows) × (turned r Totals rows ≡ r)
-totalled Resting rows x e = absurd cc
-totalled (Walking row) rows x e = absurd cc
-totalled Over rows x e = (refl, cc, refl)
+totalled : (r : Round) (rows : ℕ) → is_ok (turn_answer r Totals rows) ≡ true → (over r ≡ true) × (value (turn_answer r Totals rows) ≡ rows) × (turned r Totals rows ≡ r)
+totalled Resting rows e = absurd cc
+totalled (Walking row) rows e = absurd cc
+totalled Over rows e = (refl, refl, refl)
 
 not_totalled : (r : Round) (rows : ℕ) (q : Refusal) → turn_answer r Totals rows ≡ Err q → (over r ≡ false) × (q ≡ WrongPhase) × (turned r Totals rows ≡ r)
 not_totalled Resting rows q e = (refl, cc, refl)
@@ -101,6 +115,35 @@ not_totalled (Walking row) rows q e = (refl, cc, refl)
 not_totalled Over rows q e = absurd cc
 
 module _ {A : Type 0} (F : Field A) (s : State A) where
+  -- what the check of a stretch refused: the first hole, or where there is none the first misfit
+  stretch_refused : (C : Refusal → Type 0) (start : ℕ) (holes misfits : Option (ℕ × ℕ)) (q : Refusal) → stretch_found F s start holes misfits ≡ Err q
+      → ((row t : ℕ) → holes ≡ Some (row, t) → C (Unreadable row (start + t)))
+      → (holes ≡ None → (i t : ℕ) → misfits ≡ Some (i, t) → C (Misfit (k s + i) (start + t))) → C q
+  stretch_refused C start (Some hole) misfits q e at_hole at_misfit = let is : Unreadable hole.0 (start + hole.1) ≡ q = cc in subst C is (at_hole hole.0 hole.1 refl)
+  stretch_refused C start None (Some misfit) q e at_hole at_misfit = let is : Misfit (k s + misfit.0) (start + misfit.1) ≡ q = cc in subst C is (at_misfit refl misfit.0 misfit.1 refl)
+  stretch_refused C start None None q e at_hole at_misfit = absurd cc
+
+  stretch_passed : (start : ℕ) (holes misfits : Option (ℕ × ℕ)) (u : Unit {0}) → stretch_found F s start holes misfits ≡ Ok u → (holes ≡ None) × (misfits ≡ None)
+  stretch_passed start (Some hole) misfits u e = absurd cc
+  stretch_passed start None (Some misfit) u e = absurd cc
+  stretch_passed start None None u e = (refl, refl)
+
+  -- what the check of a span refused, and what it let pass
+  span_refused : (C : Refusal → Type 0) (row start count : ℕ) (a b : Bool) (q : Refusal)
+      → cond a (cond b (Ok (tt {0})) (Err (Unsound row (audited F s row)))) (Err (BadSpan start)) ≡ Err q
+      → (a ≡ false → C (BadSpan start)) → (a ≡ true → b ≡ false → C (Unsound row (audited F s row))) → C q
+  span_refused C row start count true true q e long unsound = absurd cc
+  span_refused C row start count true false q e long unsound = let is : Unsound row (audited F s row) ≡ q = cc in subst C is (unsound refl refl)
+  span_refused C row start count false b q e long unsound = let is : BadSpan start ≡ q = cc in subst C is (long refl)
+
+  pub span_passed : (row start count : ℕ) (u : Unit {0}) → span_checked F s row start count ≡ Ok u → (allowed s start count ≡ true) × (sound F s row ≡ true)
+  span_passed row start count u e = passed (allowed s start count) (sound F s row) e
+    where
+      passed : (a b : Bool) → cond a (cond b (Ok (tt {0})) (Err (Unsound row (audited F s row)))) (Err (BadSpan start)) ≡ Ok u → (a ≡ true) × (b ≡ true)
+      passed true true e = (refl, refl)
+      passed true false e = absurd cc
+      passed false b e = absurd cc
+
   -- the tray with another round and another sheet
   abbrev pub with_round : Round → Sheet → State A
   with_round round sheet = record { sizes = s.sizes; contents = s.contents; taken_in = s.taken_in; round = round; sheet = sheet }
@@ -121,28 +164,29 @@ module _ {A : Type 0} (F : Field A) (s : State A) where
   pub early_refused : (c : Call A) → wants_intake c ≡ true → fits F s ≡ true → s.taken_in ≡ false → Promise F s c (refused NotTakenIn) s
   early_refused c w e t = refused_promise F s c NotTakenIn (rw (e, w, t))
 
+  -- a stretch that starts at place 0 is the block
+  whole_holes : {o : Option (ℕ × ℕ)} → stretch_hole F s 0 (n s) ≡ o → lowest_pair (k s + p s) (n s) (λ r u. is_hole (cell s r u)) ≡ o
+  whole_holes h = lowest_pair_alike (k s + p s) (n s) _ _ (λ r u _ _. ap (λ v. is_hole (cell s r v)) (sym (zero-add u))) ∙ h
+
+  whole_misfits : {o : Option (ℕ × ℕ)} → stretch_misfit F s 0 (n s) ≡ o → lowest_pair (p s) (n s) (misfit F s) ≡ o
+  whole_misfits h = lowest_pair_alike (p s) (n s) _ _ (λ i u _ _. ap (misfit F s i) (sym (zero-add u))) ∙ h
+
   module _ (e : fits F s ≡ true) (t : s.taken_in ≡ false) where
-    pub intake_hole : (row place : ℕ) → lowest_pair (k s + p s) (n s) (λ r u. is_hole (cell s r u)) ≡ Some (row, place) → Promise F s intake (refused (Unreadable row place)) s
-    intake_hole row place h = refused_promise F s intake (Unreadable row place) (rw (e, t, h))
+    pub intake_refused : (q : Refusal) → stretch_checked F s 0 (n s) ≡ Err q → Promise F s intake (refused q) s
+    intake_refused q e' =
+        stretch_refused (λ q. Promise F s intake (refused q) s) 0 _ _ q e'
+        (λ row u h. subst (λ (v : ℕ). Promise F s intake (refused (Unreadable row v)) s) (sym (zero-add u)) (refused_promise F s intake (Unreadable row u) (rw (e, t, whole_holes h))))
+        (λ h i u f. subst (λ (v : ℕ). Promise F s intake (refused (Misfit (k s + i) v)) s) (sym (zero-add u)) (refused_promise F s intake (Misfit (k s + i) u) (rw (e, t, whole_holes h, whole_misfits f))))
 
-    module _ (h : lowest_pair (k s + p s) (n s) (λ r u. is_hole (cell s r u)) ≡ None) where
-      pub intake_misfit : (i row place : ℕ) → row ≡ k s + i → lowest_pair (p s) (n s) (misfit F s) ≡ Some (i, place) → Promise F s intake (refused (Misfit row place)) s
-      intake_misfit i row place of f =
-          subst (λ (r : ℕ). Promise F s intake (refused (Misfit r place)) s) (sym of) (refused_promise F s intake (Misfit (k s + i) place) (rw (e, t, h, f)))
-
-      pub intake_taken : lowest_pair (p s) (n s) (misfit F s) ≡ None → (held : Contents A) → held ≡ (with_cells s (carded F s)).contents
-          → Promise F s intake done (record { sizes = s.sizes; contents = held; taken_in = true; round = s.round; sheet = s.sheet })
-      intake_taken f held is =
-          subst (λ (v : Contents A). Promise F s intake done (record { sizes = s.sizes; contents = v; taken_in = true; round = s.round; sheet = s.sheet })) (sym is)
-          (accepted (unrefused F s intake (rw (e, t, h, f))) did_intake)
+    pub intake_taken : (u : Unit {0}) → stretch_checked F s 0 (n s) ≡ Ok u → (held : Contents A) → held ≡ (with_cells s (carded F s)).contents
+        → Promise F s intake done (record { sizes = s.sizes; contents = held; taken_in = true; round = s.round; sheet = s.sheet })
+    intake_taken u passed held is =
+        let none = stretch_passed 0 _ _ u passed in
+        rw is (accepted (unrefused F s intake (rw (e, t, whole_holes none.0, whole_misfits none.1))) did_intake)
 
   -- an allowed span ends in the block
   pub allowed_fits : (start count : ℕ) → allowed s start count ≡ true → start + count ≤ n s
   allowed_fits start count a = grind (arith, nat_tests)
-
-  -- a span of symbols is one of as many elements
-  pub mapped_span : {X : Type 0} (meaning : X → A) (start : ℕ) (xs : List X) → allowed s start (length (map meaning xs)) ≡ allowed s start (length xs)
-  mapped_span meaning start xs = ap (allowed s start) (length-map xs meaning)
 
   -- the number of rows, where no sum of the sizes overflows
   pub row_count : fits F s ≡ true → {v : ℕ} → v ≡ min (k s + p s) (2 ^ 64 - 1) → v ≡ k s + p s
@@ -155,126 +199,103 @@ module _ {A : Type 0} (F : Field A) (s : State A) where
 
     pub audit_judged : (row : ℕ) (v : Verdict) → row < k s + p s → v ≡ audited F s row → Promise F s (audit row) (judged v) s
     audit_judged row v h is =
-        subst (λ v. Promise F s (audit row) (judged v) s) (sym is) (accepted (unrefused F s (audit row) (rw (e, t, lt-leb _ _ h))) (did_audit row))
+        rw is (accepted (unrefused F s (audit row) (rw (e, t, lt-leb _ _ h))) (did_audit row))
 
     module _ (row start count : ℕ) where
       pub read_no_row : k s + p s ≤ row → Promise F s (read row start count) (refused (NoSuchRow row)) s
       read_no_row h = refused_promise F s (read row start count) (NoSuchRow row) (rw (e, t, le-leb _ _ h))
 
       module _ (h : row < k s + p s) where
-        pub read_long : allowed s start count ≡ false → Promise F s (read row start count) (refused (BadSpan start)) s
-        read_long a = refused_promise F s (read row start count) (BadSpan start) (rw (e, t, lt-leb _ _ h, a))
+        pub read_refused : (q : Refusal) → span_checked F s row start count ≡ Err q → Promise F s (read row start count) (refused q) s
+        read_refused q e' =
+            span_refused (λ q. Promise F s (read row start count) (refused q) s) row start count (allowed s start count) (sound F s row) q e'
+            (λ a. refused_promise F s (read row start count) (BadSpan start) (rw (e, t, lt-leb _ _ h, a)))
+            (λ a b. refused_promise F s (read row start count) (Unsound row (audited F s row)) (rw (e, t, lt-leb _ _ h, a, b)))
 
-        module _ (a : allowed s start count ≡ true) where
-          pub read_unsound : (v : Verdict) → v ≡ audited F s row → sound F s row ≡ false → Promise F s (read row start count) (refused (Unsound row v)) s
-          read_unsound v is b =
-              subst (λ v. Promise F s (read row start count) (refused (Unsound row v)) s) (sym is)
-              (refused_promise F s (read row start count) (Unsound row (audited F s row)) (rw (e, t, lt-leb _ _ h, a, b)))
-
-          pub read_copied : (xs : List A) → sound F s row ≡ true → xs ≡ span F s row start count → Promise F s (read row start count) (copied xs) s
-          read_copied xs b is =
-              subst (λ xs. Promise F s (read row start count) (copied xs) s) (sym is)
-              (accepted (unrefused F s (read row start count) (rw (e, t, lt-leb _ _ h, a, b))) (did_read row start count))
+        pub read_copied : (u : Unit {0}) (xs : List A) → span_checked F s row start count ≡ Ok u → xs ≡ span F s row start count → Promise F s (read row start count) (copied xs) s
+        read_copied u xs e' is =
+            let z = span_passed row start count u e' in
+            rw is (accepted (unrefused F s (read row start count) (rw (e, t, lt-leb _ _ h, z.0, z.1))) (did_read row start count))
 
     module _ (row start : ℕ) (xs : List A) where
       pub write_no_row : k s ≤ row → Promise F s (write row start xs) (refused (NoSuchRow row)) s
       write_no_row h = refused_promise F s (write row start xs) (NoSuchRow row) (rw (e, t, le-leb _ _ h))
 
       module _ (h : row < k s) where
-        pub write_long : allowed s start (length xs) ≡ false → Promise F s (write row start xs) (refused (BadSpan start)) s
-        write_long a = refused_promise F s (write row start xs) (BadSpan start) (rw (e, t, lt-leb _ _ h, a))
+        pub write_refused : (q : Refusal) → span_checked F s row start (length xs) ≡ Err q → Promise F s (write row start xs) (refused q) s
+        write_refused q e' =
+            span_refused (λ q. Promise F s (write row start xs) (refused q) s) row start (length xs) (allowed s start (length xs)) (sound F s row) q e'
+            (λ a. refused_promise F s (write row start xs) (BadSpan start) (rw (e, t, lt-leb _ _ h, a)))
+            (λ a b. refused_promise F s (write row start xs) (Unsound row (audited F s row)) (rw (e, t, lt-leb _ _ h, a, b)))
 
         module _ (a : allowed s start (length xs) ≡ true) where
-          pub write_unsound : (v : Verdict) → v ≡ audited F s row → sound F s row ≡ false → Promise F s (write row start xs) (refused (Unsound row v)) s
-          write_unsound v is b =
-              subst (λ v. Promise F s (write row start xs) (refused (Unsound row v)) s) (sym is)
-              (refused_promise F s (write row start xs) (Unsound row (audited F s row)) (rw (e, t, lt-leb _ _ h, a, b)))
-
           module _ (b : sound F s row ≡ true) where
             pub write_unsound_parity : (i r : ℕ) (v : Verdict) → r ≡ k s + i → v ≡ audited F s (k s + i) → lowest (p s) (λ i. not (sound F s (k s + i))) ≡ Some i
                 → Promise F s (write row start xs) (refused (Unsound r v)) s
             write_unsound_parity i r v of is f =
-                subst₂ (λ (r : ℕ) (v : Verdict). Promise F s (write row start xs) (refused (Unsound r v)) s) (sym of) (sym is)
-                (refused_promise F s (write row start xs) (Unsound (k s + i) (audited F s (k s + i))) (rw (e, t, lt-leb _ _ h, a, b, f)))
+                rw (of, is) (refused_promise F s (write row start xs) (Unsound (k s + i) (audited F s (k s + i))) (rw (e, t, lt-leb _ _ h, a, b, f)))
 
             pub write_written : lowest (p s) (λ i. not (sound F s (k s + i))) ≡ None → (held : Contents A) → held ≡ (with_cells s (written F s row start xs (cell s))).contents
                 → Promise F s (write row start xs) done (with_contents held)
             write_written f held is =
-                subst (λ v. Promise F s (write row start xs) done (with_contents v)) (sym is)
-                (accepted (unrefused F s (write row start xs) (rw (e, t, lt-leb _ _ h, a, b, f))) (did_write row start xs))
+                rw is (accepted (unrefused F s (write row start xs) (rw (e, t, lt-leb _ _ h, a, b, f))) (did_write row start xs))
 
-    pub cross_hole : (row c place : ℕ) → place ≡ n s + c → lowest_pair (k s + p s) (m s) (λ r u. is_hole (cell s r (n s + u))) ≡ Some (row, c)
-        → Promise F s cross (refused (Unreadable row place)) s
-    cross_hole row c place at h =
-        subst (λ (v : ℕ). Promise F s cross (refused (Unreadable row v)) s) (sym at) (refused_promise F s cross (Unreadable row (n s + c)) (rw (e, t, h)))
+    cross_refused : (q : Refusal) → stretch_checked F s (n s) (m s) ≡ Err q → Promise F s cross (refused q) s
+    cross_refused q e' =
+        stretch_refused (λ q. Promise F s cross (refused q) s) (n s) _ _ q e'
+        (λ row c h. refused_promise F s cross (Unreadable row (n s + c)) (rw (e, t, h)))
+        (λ h i c f. refused_promise F s cross (Misfit (k s + i) (n s + c)) (rw (e, t, h, f)))
 
-    module _ (h : lowest_pair (k s + p s) (m s) (λ r u. is_hole (cell s r (n s + u))) ≡ None) where
-      pub cross_misfit : (i c row place : ℕ) → row ≡ k s + i → place ≡ n s + c → lowest_pair (p s) (m s) (λ i u. misfit F s i (n s + u)) ≡ Some (i, c)
-          → Promise F s cross (refused (Misfit row place)) s
-      cross_misfit i c row place of at f =
-          subst₂ (λ (r v : ℕ). Promise F s cross (refused (Misfit r v)) s) (sym of) (sym at) (refused_promise F s cross (Misfit (k s + i) (n s + c)) (rw (e, t, h, f)))
+    cross_fitting : (u : Unit {0}) → stretch_checked F s (n s) (m s) ≡ Ok u → Promise F s cross done s
+    cross_fitting u e' = let none = stretch_passed (n s) _ _ u e' in accepted (unrefused F s cross (rw (e, t, none.0, none.1))) did_cross
 
-      pub cross_fitting : lowest_pair (p s) (m s) (λ i u. misfit F s i (n s + u)) ≡ None → Promise F s cross done s
-      cross_fitting f = accepted (unrefused F s cross (rw (e, t, h, f))) did_cross
+    pub cross_checked : (r : Result (Unit {0}) Refusal) → r ≡ stretch_checked F s (n s) (m s) → Promise F s cross (answer_of r) s
+    cross_checked (Ok u) is = cross_fitting u (sym is)
+    cross_checked (Err q) is = cross_refused q (sym is)
 
     begin_still : (row : ℕ) → s.round ≡ Walking row → Promise F s begin (refused (StillWalking row)) s
     begin_still row w = refused_promise F s begin (StillWalking row) (rw (e, t, w))
 
-    module _ (rows : ℕ) (round : Round) where
-      pub begin_refused : (q : Refusal) → turn_answer s.round Begin rows ≡ Err q → round ≡ turned s.round Begin rows → Promise F s begin (refused q) (with_round round s.sheet)
-      begin_refused q a is =
-          let z = not_begun s.round rows q a in
-          subst (λ o. Promise F s begin (refused q) (with_round o s.sheet)) (sym (is ∙ z.3))
-          (subst (λ q. Promise F s begin (refused q) s) (sym z.2) (begin_still z.0 z.1))
+    -- the number of rows as code counts them
+    abbrev rows : ℕ
+    rows = min (k s + p s) (2 ^ 64 - 1)
 
-      pub begin_accepted : (x : ℕ) (sheet : Sheet) → turn_answer s.round Begin rows ≡ Ok x → round ≡ turned s.round Begin rows → sheet ≡ unread
-          → Promise F s begin done (with_round round sheet)
-      begin_accepted x sheet a is new =
-          let z = began s.round rows x a in
-          subst (λ o. Promise F s begin done (with_round o sheet)) (sym (is ∙ z.1))
-          (subst (λ v. Promise F s begin done (with_round (Walking 0) v)) (sym new) (accepted (unrefused F s begin (rw (e, t, z.0))) did_begin))
+    -- a round that refused an action is as it was
+    module _ (after : State A) (q : Refusal) where
+      pub begin_refused : turn_answer s.round Begin rows ≡ Err q → after ≡ with_round (turned s.round Begin rows) s.sheet → Promise F s begin (refused q) after
+      begin_refused a is = let z = not_begun s.round rows q a in rw (is, z.3, z.2) (begin_still z.0 z.1)
 
-      pub step_refused : (q : Refusal) → turn_answer s.round Step rows ≡ Err q → round ≡ turned s.round Step rows → Promise F s step (refused q) (with_round round s.sheet)
-      step_refused q a is =
-          let z = not_stepped s.round rows q a in
-          subst (λ o. Promise F s step (refused q) (with_round o s.sheet)) (sym (is ∙ z.2))
-          (subst (λ q. Promise F s step (refused q) s) (sym z.1) (refused_promise F s step WrongPhase (rw (e, t, z.0))))
+      pub step_refused : turn_answer s.round Step rows ≡ Err q → after ≡ with_round (turned s.round Step rows) s.sheet → Promise F s step (refused q) after
+      step_refused a is = let z = not_stepped s.round rows q a in rw (is, z.2, z.1) (refused_promise F s step WrongPhase (rw (e, t, z.0)))
 
-      pub totals_refused : (q : Refusal) → turn_answer s.round Totals rows ≡ Err q → round ≡ turned s.round Totals rows → Promise F s totals (refused q) (with_round round s.sheet)
-      totals_refused q a is =
-          let z = not_totalled s.round rows q a in
-          subst (λ o. Promise F s totals (refused q) (with_round o s.sheet)) (sym (is ∙ z.2))
-          (subst (λ q. Promise F s totals (refused q) s) (sym z.1) (refused_promise F s totals WrongPhase (rw (e, t, z.0))))
+      pub totals_refused : turn_answer s.round Totals rows ≡ Err q → after ≡ with_round (turned s.round Totals rows) s.sheet → Promise F s totals (refused q) after
+      totals_refused a is = let z = not_totalled s.round rows q a in rw (is, z.2, z.1) (refused_promise F s totals WrongPhase (rw (e, t, z.0)))
 
-      pub totals_counted : (x : ℕ) (pair : ℕ × ℕ) → turn_answer s.round Totals rows ≡ Ok x → round ≡ turned s.round Totals rows → rows ≡ k s + p s
-          → pair.0 ≡ counted x (λ r. entry_sound (entry_of s r)) → pair.1 ≡ counted x (λ r. not (entry_sound (entry_of s r)))
-          → Promise F s totals (counts pair.0 pair.1) (with_round round s.sheet)
-      totals_counted x pair a is all b c =
-          let z = totalled s.round rows x a in
-          subst (λ o. Promise F s totals (counts pair.0 pair.1) (with_round o s.sheet)) (sym (is ∙ z.2))
-          (subst (λ v. Promise F s totals v s)
-          (sym (ap₂ counts (b ∙ ap (λ v. counted v (λ r. entry_sound (entry_of s r))) (z.1 ∙ all)) (c ∙ ap (λ v. counted v (λ r. not (entry_sound (entry_of s r)))) (z.1 ∙ all))))
-          (accepted (unrefused F s totals (rw (e, t, z.0))) did_totals))
+    pub begin_accepted : (after : State A) → is_ok (turn_answer s.round Begin rows) ≡ true → after ≡ with_round (turned s.round Begin rows) unread → Promise F s begin done after
+    begin_accepted after a is = let z = began s.round rows a in rw (is, z.1) (accepted (unrefused F s begin (rw (e, t, z.0))) did_begin)
 
-    pub step_judged : (x : ℕ) (round : Round) (sheet : Sheet) (v : Verdict) → turn_answer s.round Step (k s + p s) ≡ Ok x → round ≡ turned s.round Step (k s + p s)
+    pub totals_counted : (a b : ℕ) (after : State A) → is_ok (turn_answer s.round Totals rows) ≡ true → a ≡ counted (value (turn_answer s.round Totals rows)) (λ r. entry_sound (entry_of s r))
+        → b ≡ counted (value (turn_answer s.round Totals rows)) (λ r. not (entry_sound (entry_of s r))) → after ≡ with_round (turned s.round Totals rows) s.sheet → Promise F s totals (counts a b) after
+    totals_counted a b after ok at_a at_b is =
+        let z = totalled s.round rows ok in
+        let all = z.1 ∙ row_count e refl in
+        rw (is, z.2, at_a, at_b, all) (accepted (unrefused F s totals (rw (e, t, z.0))) did_totals)
+
+    pub step_judged : (x : ℕ) (round : Round) (sheet : Sheet) (v : Verdict) → turn_answer s.round Step rows ≡ Ok x → round ≡ turned s.round Step rows
         → v ≡ audited F s x → sheet.records ≡ set s.sheet.records x (entered v) → Promise F s step (judged v) (with_round round sheet)
     step_judged x round sheet v a is found records =
-        let z = stepped s.round (k s + p s) x a in
-        let at : sheet ≡ record { records = set s.sheet.records x (entered (audited F s x)) } = ap (λ l. record { records = l }) (records ∙ ap (λ v. set s.sheet.records x (entered v)) found) in
-        subst (λ v. Promise F s step (judged v) (with_round round sheet)) (sym found)
-        (subst (λ o. Promise F s step (judged (audited F s x)) (with_round o sheet)) (sym (is ∙ z.1))
-        (subst (λ (u : Sheet). Promise F s step (judged (audited F s x)) (with_round (next_row x (k s + p s)) u)) (sym at)
-        (accepted (unrefused F s step (rw (e, t, z.0))) (did_step x z.0))))
+        let z = stepped s.round rows x a in
+        let at : sheet ≡ record { records = set s.sheet.records x (entered v) } = ap (λ l. record { records = l }) records in
+        rw (is, z.1, row_count e refl, at, found) (accepted (unrefused F s step (rw (e, t, z.0))) (did_step x z.0))
 
     pub record_no_row : (row : ℕ) → k s + p s ≤ row → Promise F s (record_of row) (refused (NoSuchRow row)) s
     record_no_row row h = refused_promise F s (record_of row) (NoSuchRow row) (rw (e, t, le-leb _ _ h))
 
-    pub record_answered : (row : ℕ) → row < k s + p s → Promise F s (record_of row) (entry_is (entry_of s row)) s
-    record_answered row h = accepted (unrefused F s (record_of row) (rw (e, t, lt-leb _ _ h))) (did_record row)
+    pub record_answered : (row : ℕ) (entry : Entry) → row < k s + p s → entry ≡ entry_of s row → Promise F s (record_of row) (entry_is entry) s
+    record_answered row entry h is = rw is (accepted (unrefused F s (record_of row) (rw (e, t, lt-leb _ _ h))) (did_record row))
 
-    pub first_answered : (rows : ℕ) → rows ≡ k s + p s → Promise F s first (lowest_is (lowest rows (λ r. entry_bad (entry_of s r)))) s
-    first_answered rows all =
-        subst (λ v. Promise F s first (lowest_is (lowest v (λ r. entry_bad (entry_of s r)))) s) (sym all) (accepted (unrefused F s first (rw (e, t))) did_first)
+    pub first_answered : (found : Option ℕ) → found ≡ lowest (min (k s + p s) (2 ^ 64 - 1)) (λ r. entry_bad (entry_of s r)) → Promise F s first (lowest_is found) s
+    first_answered found is = rw (is, row_count e refl) (accepted (unrefused F s first (rw (e, t))) did_first)
 
 -- a shelf of the same sizes, put in the place of another, is other cells inside the sizes
 pub exchanged : {A : Type 0} (s : State A) (contents : Contents A) → ExchangedAs s contents (on_contents s contents)

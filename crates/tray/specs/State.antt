@@ -1,19 +1,22 @@
 -- The state that promises speak of, from a tray over any shelf; and what a call's result answers.
-use Rattle.std.specs.Prelude.{◌≡◌, ℕ, true, List, map, Ok, Err, Result}
+use Rattle.std.specs.Prelude.{◌≡◌, ℕ, ◌+◌, true, cond, List, map, Ok, Err, Result, Some, None, Option}
 use Rattle.algebra.specs.Algebra.{Field}
-use Rattle.shelves.specs.Contents.{Contents}
+use Rattle.shelves.specs.Contents.{Contents, is_hole}
 use Rattle.rules.specs.Calls.{Call, Answer, done, copied, counts, refused, wants_intake}
 use Rattle.rules.specs.Promises.{Promise}
-use Rattle.rules.specs.States.{State, fits, with_cells}
+use Rattle.rules.specs.Search.{lowest_pair}
+use Rattle.rules.specs.States.{State, k, p, cell, fits, audited, sound, misfit, with_cells}
+use Rattle.rules.specs.Updates.{allowed}
 use Rattle.rules.specs.Views.{seen_contents}
 use Rattle.rules.specs.declared.Refusal.{Refusal}
+use Rattle.rules.specs.declared.Refusal.TheVariants.{BadSpan, Unsound, Unreadable, Misfit}
 use Rattle.tray.specs.declared.Tray.{Tray}
 
 -- the sizes, the shelf's symbols as elements, whether it is taken in, the round and the sheet
 abbrev pub state : {S X A : Type 0} → (S → Contents X) → (X → A) → Tray S X → State A
 state contents meaning t = record {
-  sizes = t.group.sizes;
-  contents = seen_contents meaning (contents t.group.shelf);
+  sizes = t.sizes;
+  contents = seen_contents meaning (contents t.shelf);
   taken_in = t.taken_in;
   round = t.round;
   sheet = t.sheet;
@@ -54,3 +57,25 @@ Ready {A} F s (Err r) = (c : Call A) → wants_intake c ≡ true → Promise F s
 -- Where the sizes stay, an exchange is what damage does in a run: other cells inside the sizes, and nothing else.
 abbrev pub ExchangedAs : {A : Type 0} → State A → Contents A → State A → Type 0
 ExchangedAs s contents after = contents.rows ≡ s.contents.rows → contents.places ≡ s.contents.places → after ≡ with_cells s contents.at
+
+module _ {A : Type 0} (F : Field A) (s : State A) where
+  -- the first hole of a stretch of places that begins at start, its place counted from there
+  abbrev pub stretch_hole : ℕ → ℕ → Option (ℕ × ℕ)
+  stretch_hole start places = lowest_pair (k s + p s) places (λ row t. is_hole (cell s row (start + t)))
+
+  -- the first place of the stretch at which a parity row does not fit
+  abbrev pub stretch_misfit : ℕ → ℕ → Option (ℕ × ℕ)
+  stretch_misfit start places = lowest_pair (p s) places (λ i t. misfit F s i (start + t))
+
+  -- what a search for holes and one for misfits come to, holes first
+  abbrev pub stretch_found : ℕ → Option (ℕ × ℕ) → Option (ℕ × ℕ) → Result (Unit {0}) Refusal
+  stretch_found start (Some hole) misfit = Err (Unreadable hole.0 (start + hole.1))
+  stretch_found start None (Some misfit) = Err (Misfit (k s + misfit.0) (start + misfit.1))
+  stretch_found start None None = Ok tt
+
+  abbrev pub stretch_checked : ℕ → ℕ → Result (Unit {0}) Refusal
+  stretch_checked start places = stretch_found start (stretch_hole start places) (stretch_misfit start places)
+
+  -- a span that is not allowed, and failing that a row that is not sound
+  abbrev pub span_checked : ℕ → ℕ → ℕ → Result (Unit {0}) Refusal
+  span_checked row start count = cond (allowed s start count) (cond (sound F s row) (Ok tt) (Err (Unsound row (audited F s row)))) (Err (BadSpan start))

@@ -16,14 +16,12 @@ fn stocked() -> [Byte; 20] {
 // A tray of these sizes that is taken in, over memory as it stands.
 fn taken_in<'a>(symbols: &'a mut [Byte], marks: &'a mut [u8]) -> Tray<ArrayShelf<'a, Byte>> {
     Tray {
-        group: Group {
-            shelf: ArrayShelf::over(4, 5, symbols, marks),
-            sizes: Sizes {
-                data_rows: 2,
-                parity_rows: 2,
-                block_length: 3,
-                card_length: 2,
-            },
+        shelf: ArrayShelf::over(4, 5, symbols, marks),
+        sizes: Sizes {
+            data_rows: 2,
+            parity_rows: 2,
+            block_length: 3,
+            card_length: 2,
         },
         taken_in: true,
         round: Round::Resting,

@@ -16,11 +16,13 @@ pub fn worked_examples_hold()
 {}
 
 // The example image goes through an intake, writes, damage of each kind, a refused write, a refused mend and a mend, and ends equal to its twin.
+#[tactic(auto, using(crate::proofs::Run::example_run))]
 pub fn example_run_holds()
     ensures { ExampleRun }
 {}
 
 // Parity row 0 is the plain sum of the data rows, over every field.
+#[tactic(auto, using(rules::proofs::Parity::first_row_sums))]
 pub fn first_parity_row_sums()
     ensures ones { (q : ℕ) (F : Algebra (Below q)) → FirstRowOnes F }
     ensures sums { (q : ℕ) (F : Algebra (Below q)) → FirstRowSums F }
@@ -32,6 +34,7 @@ pub fn runs_go_on()
 {}
 
 // What a refusal names is the lowest row, and then the lowest place.
+#[tactic(auto, using(crate::proofs::Searches::lowests_are_lowest))]
 pub fn searches_find_the_lowest()
     ensures { LowestsAreLowest }
 {}

@@ -173,30 +173,30 @@ module _ {X A : Type 0} (F : Field A) (meaning : X → A) (sizes : Sizes) where
     }
 
     -- a symbol of the block and then the card
-    pub row_step : (now_held after : Contents X) (row t : ℕ) (d : A) {also : Type 0}
+    pub row_step : (now_held after : Contents X) (row t : ℕ) (d : A)
         → Puts meaning (Readable F meaning sizes before row × (t < n s + m s)) (place_grown F s row t d (cells_of meaning before)) before now_held
-        → Puts meaning (Readable F meaning sizes now_held row × also) (card_grown F s row t d (m s) (cells_of meaning now_held)) now_held after
-        → Puts meaning (Readable F meaning sizes before row × (t < n s) × also) (row_grown F s row t d (cells_of meaning before)) before after
+        → Puts meaning (Readable F meaning sizes now_held row) (card_grown F s row t d (m s) (cells_of meaning now_held)) now_held after
+        → Puts meaning (Readable F meaning sizes before row × (t < n s)) (row_grown F s row t d (cells_of meaning before)) before after
     row_step now_held after row t d placed carded = record {
       rows = carded.rows ∙ placed.rows;
       places = carded.places ∙ placed.places;
       at = λ met r v.
           let first : Readable F meaning sizes before row × (t < n s + m s) = (met.0, omega (arith, met.1)) in
-          carded.at (still_readable row placed first (λ w. place_hole F s row t d (cells_of meaning before) row w) met.0, met.2) r v
+          carded.at (still_readable row placed first (λ w. place_hole F s row t d (cells_of meaning before) row w) met.0) r v
           ∙ ap (λ c. cond (eqb r row && leb (n s) v && ltb v (n s + m s)) (grow F s (F.mul (weight F s t v) d) c) c) (placed.at first r v);
     }
 
     -- one parity row more
-    pub rows_step : {when : Type 0} (now_held after : Contents X) (row t : ℕ) (d : A) (i r : ℕ) (e : A) {also : Type 0} → (when → Readable F meaning sizes before (k s + i))
-        → (when → t < n s) → (when → also) → (when → r ≡ k s + i) → (when → e ≡ F.mul (coefficient F i row) d)
+    pub rows_step : {when : Type 0} (now_held after : Contents X) (row t : ℕ) (d : A) (i r : ℕ) (e : A) → (when → Readable F meaning sizes before (k s + i))
+        → (when → t < n s) → (when → r ≡ k s + i) → (when → e ≡ F.mul (coefficient F i row) d)
         → Puts meaning when (rows_grown F s row t d i (cells_of meaning before)) before now_held
-        → Puts meaning (Readable F meaning sizes now_held r × (t < n s) × also) (row_grown F s r t e (cells_of meaning now_held)) now_held after
+        → Puts meaning (Readable F meaning sizes now_held r × (t < n s)) (row_grown F s r t e (cells_of meaning now_held)) now_held after
         → Puts meaning when (rows_grown F s row t d (i + 1) (cells_of meaning before)) before after
-    rows_step now_held after row t d i r e readable inside weighed there own held put = record {
+    rows_step now_held after row t d i r e readable inside there own held put = record {
       rows = put.rows ∙ held.rows;
       places = put.places ∙ held.places;
       at = λ met q v.
-          put.at (subst (Readable F meaning sizes now_held) (sym (there met)) (still_readable (k s + i) held met (λ w. rows_hole F s row t d i (cells_of meaning before) (k s + i) w) (readable met)), inside met, weighed met) q v
+          put.at (subst (Readable F meaning sizes now_held) (sym (there met)) (still_readable (k s + i) held met (λ w. rows_hole F s row t d i (cells_of meaning before) (k s + i) w) (readable met)), inside met) q v
           ∙ ap₂ (λ (w : ℕ) (x : A). row_grown F s w t x (cells_of meaning now_held) q v) (there met) (own met)
           ∙ ap (λ (c : ℕ → ℕ → Cell A). row_grown F s (k s + i) t (F.mul (coefficient F i row) d) c q v) (fun_ext λ a. fun_ext λ b. held.at met a b)
           ∙ (let one : i + 1 ≡ suc i = omega arith in sym (ap (λ (w : ℕ). rows_grown F s row t d w (cells_of meaning before) q v) one));

@@ -1,17 +1,13 @@
-use Rattle.std.proofs.Common.{◌≡◌, ◌-◌, ◌+◌, ap, ◌∙◌, Some, None, slice_set, rules, arith}
+use Rattle.std.proofs.Common.{◌≡◌, ◌-◌, ◌+◌, Some, slice_set, rules, arith}
 use Rattle.std.proofs.lemmas.Grind.{common_steps}
 use borrow.Rule.Slice.PartMut.{put_mid}
-use Rattle.shelves.specs.Contents.{after_put}
-use Rattle.image_shelves.specs.Layout.{put_at, image_contents, image_spot}
+use Rattle.image_shelves.specs.Layout.{put_at}
 use Rattle.image_shelves.proofs.Images.{unchanged, changed}
 use Rattle.image_shelves.proofs.image_put.Goals as goal
 
 pub returns-in_err-spot-clause-after : goal.returns-in_err-spot-clause-after
 returns-in_err-spot-clause-after g c =
-    let k = g.F.CodedField.kind in
-    let w = g.F.CodedField.width in
-    let is : None ≡ image_spot k w c.args.bytes.now c.args.row c.args.place = search rules in
-    unchanged k w g.F.Field.algebra.size g.F.Field.symbol c.args.bytes.now c.args.row c.args.place c.args.symbol is
+    unchanged g.F.CodedField.kind g.F.CodedField.width g.F.Field.algebra.size g.F.Field.symbol c.args.bytes.now c.args.row c.args.place _ (search rules)
 
 pub returns-clause-after : goal.returns-clause-after
 returns-clause-after g c =
@@ -21,8 +17,6 @@ returns-clause-after g c =
     let v = g.F.Field.algebra.number (g.F.Field.meaning c.args.symbol) in
     let bytes = c.args.bytes.now in
     let s = c.in_ok-spot.spot in
-    let is : Some s ≡ image_spot k w bytes c.args.row c.args.place = search rules in
     let wrote : put_mid s.code (s.code + c.code_width.result - s.code) (slice_set bytes s.mark 1) c.encode.new.into ≡ put_at w (Some s) v bytes = grind (arith, common_steps) in
-    ap (image_contents k w q g.F.Field.symbol) wrote
-    ∙ changed k w q g.F.Field.symbol bytes c.args.row c.args.place v s is (g.F.Field.algebra.number_bound (g.F.Field.meaning c.args.symbol)) c.code_width.ensures.roomy
-    ∙ ap (after_put (image_contents k w q g.F.Field.symbol bytes) c.args.row c.args.place) c.encode.ensures.own
+    let put = changed k w q g.F.Field.symbol bytes c.args.row c.args.place v s (search rules) (g.F.Field.algebra.number_bound (g.F.Field.meaning c.args.symbol)) c.code_width.ensures.roomy in
+    cc

@@ -1,9 +1,9 @@
-use Rattle.std.proofs.Common.{◌+◌, length, sym, ap, ◌∙◌, subst₂, arith, length-set}
+use Rattle.std.proofs.Common.{length, sym, ap, ◌∙◌, arith, length-set}
 use Rattle.rules.specs.Calls.{is_sound}
 use Rattle.rules.specs.States.{sound}
 use Rattle.rows.specs.Shown.{shown}
 use Rattle.rules.proofs.Rows.{fitting}
-use Rattle.mending.proofs.Gathering.{Listed, listed_sound, listed_unsound, listed_past, listed_all}
+use Rattle.mending.proofs.Gathering.{listed_sound, listed_unsound, listed_past, listed_all}
 use Rattle.mending.proofs.gather.Goals as goal
 use Rattle.mending.proofs.gather.Goals.{then-not-is_sound, then-count-lt4, else-count-lt4, else-not-is_sound}
 
@@ -19,23 +19,20 @@ loop-row-preserved g c =
           length_kept = ap length (w.rows-is ∙ v.rows-is) ∙ length-set c.loop-row.rows c.loop-row.count row ∙ inv.length_kept;
           within = omega (arith, w.count-is);
           listed = λ fit.
-              subst₂ (Listed (sound F s) (row + 1)) (sym (w.rows-is ∙ v.rows-is)) (sym w.count-is)
-              (listed_unsound (sound F s) row c.loop-row.rows c.loop-row.count (inv.listed fit) (ap is_sound (sym (c.audit.ensures fit)) ∙ sym c.is_sound.ensures ∙ w.if-not-is_sound.true) (omega (arith, v.if-count-lt4.true, inv.length_kept)));
+              rw (w.rows-is, v.rows-is, w.count-is) (listed_unsound (sound F s) row c.loop-row.rows c.loop-row.count (inv.listed fit) (ap is_sound (sym (c.audit.ensures fit)) ∙ sym c.is_sound.ensures ∙ w.if-not-is_sound.true) (omega (arith, v.if-count-lt4.true, inv.length_kept)));
         }
         | else-count-lt4 v ↦ record {
           length_kept = ap length (w.rows-is ∙ v.rows-is) ∙ inv.length_kept;
           within = omega (arith, w.count-is);
           listed = λ fit.
-              subst₂ (Listed (sound F s) (row + 1)) (sym (w.rows-is ∙ v.rows-is)) (sym w.count-is)
-              (listed_past (sound F s) row c.loop-row.rows c.loop-row.count (inv.listed fit) (ap is_sound (sym (c.audit.ensures fit)) ∙ sym c.is_sound.ensures ∙ w.if-not-is_sound.true) v.if-count-lt4.false);
+              rw (w.rows-is, v.rows-is, w.count-is) (listed_past (sound F s) row c.loop-row.rows c.loop-row.count (inv.listed fit) (ap is_sound (sym (c.audit.ensures fit)) ∙ sym c.is_sound.ensures ∙ w.if-not-is_sound.true) v.if-count-lt4.false);
         }
       ]
       | else-not-is_sound w ↦ record {
         length_kept = ap length w.rows-is ∙ inv.length_kept;
         within = omega (arith, w.count-is);
         listed = λ fit.
-            subst₂ (Listed (sound F s) (row + 1)) (sym w.rows-is) (sym w.count-is)
-            (listed_sound (sound F s) row c.loop-row.rows c.loop-row.count (inv.listed fit) (ap is_sound (sym (c.audit.ensures fit)) ∙ sym c.is_sound.ensures ∙ w.if-not-is_sound.false));
+            rw (w.rows-is, w.count-is) (listed_sound (sound F s) row c.loop-row.rows c.loop-row.count (inv.listed fit) (ap is_sound (sym (c.audit.ensures fit)) ∙ sym c.is_sound.ensures ∙ w.if-not-is_sound.false));
       }
     ]
 

@@ -1,9 +1,9 @@
-use Rattle.std.proofs.Common.{◌≡◌, ℕ, ◌+◌, ◌<◌, sym, ap, ◌∙◌, subst, arith}
+use Rattle.std.proofs.Common.{◌≡◌, ℕ, ◌+◌, ◌<◌, sym, ◌∙◌, subst, arith}
+use Rattle.rules.specs.Views.{seen}
 use Rattle.rules.proofs.Rows.{fitting}
 use Rattle.rows.specs.Cards.{Holds}
-use Rattle.rows.specs.Shown.{shown}
 use Rattle.mending.specs.Stored.{stored}
-use Rattle.mending.specs.Puts.{mended_below}
+use Rattle.mending.specs.Puts.{row_cells}
 use Rattle.mending.proofs.Stating.{flag_is, weights_here}
 use Rattle.mending.proofs.Putting.{sound_next, put_next, all_mended}
 use Rattle.mending.proofs.put_rows.Goals as goal
@@ -16,26 +16,26 @@ loop-row-preserved g c =
     let contents = g.S.Shelf.contents in
     let sizes = c.args.group.now.sizes in
     let plan = c.args.plan.now in
-    let before = contents c.args.group.now.shelf in
-    let now = contents c.loop-row.group.shelf in
-    let s = shown contents meaning c.args.group.now in
+    let before = contents c.args.group.now.shelf.now in
+    let now = contents c.loop-row.group.shelf.now in
+    let s = seen meaning sizes before in
     let row = c.loop-row.row in
-    let same = c.loop-row.invariant.same_sizes in
+    let same = c.loop-row.invariant.same in
     let h : row < sizes.data_rows + sizes.parity_rows = omega (arith, c.rows-row-end.ensures) in
     elim c.if-not-is_sound.branch [
       | then-not-is_sound v ↦ record {
-        same_sizes = ap (λ x. x.sizes) v.group-is ∙ v.put_row.ensures.sizes ∙ same;
+        same = rw v.group-is (record { shelf = v.put.ensures.same.shelf ∙ same.shelf; sizes = v.put.ensures.same.sizes ∙ same.sizes });
         held = λ ready blocks w.
-            subst (λ x. Holds F meaning sizes before (mended_below F meaning sizes blocks before (row + 1)) (contents x.shelf)) (sym v.group-is)
-            (put_next F meaning sizes before plan ready blocks w row h now (c.loop-row.invariant.held ready blocks w) (stored F v.row_weights.result)
-            (weights_here F s plan ready row (stored F v.row_weights.result) v.row_weights.ensures h)
-            (sym (flag_is F s plan ready row h) ∙ sym c.is_sound.ensures ∙ v.if-not-is_sound.true) _ ((rw same at v.put_row.ensures.cells) h));
+            let weights = stored F v.worked_row.result.weights in
+            rw v.group-is (put_next F meaning sizes before plan ready blocks w row h now (c.loop-row.invariant.held ready blocks w) weights
+            (weights_here F s plan ready row weights v.worked_row.ensures.weights h)
+            (sym (flag_is F s plan ready row h) ∙ sym c.is_sound.ensures ∙ v.if-not-is_sound.true) _
+            (subst (λ (r : ℕ). r < sizes.data_rows + sizes.parity_rows → Holds F meaning sizes now (row_cells F meaning sizes weights r now) (contents v.put.new.group.shelf.now)) v.worked_row.ensures.row (rw same.sizes at v.put.ensures.cells) h));
       }
       | else-not-is_sound v ↦ record {
-        same_sizes = ap (λ x. x.sizes) v.group-is ∙ same;
+        same = rw v.group-is same;
         held = λ ready blocks w.
-            subst (λ x. Holds F meaning sizes before (mended_below F meaning sizes blocks before (row + 1)) (contents x.shelf)) (sym v.group-is)
-            (sound_next F meaning sizes before plan ready blocks w row h now (c.loop-row.invariant.held ready blocks w) (sym (flag_is F s plan ready row h) ∙ sym c.is_sound.ensures ∙ v.if-not-is_sound.false));
+            rw v.group-is (sound_next F meaning sizes before plan ready blocks w row h now (c.loop-row.invariant.held ready blocks w) (sym (flag_is F s plan ready row h) ∙ sym c.is_sound.ensures ∙ v.if-not-is_sound.false));
       }
     ]
 
@@ -44,8 +44,8 @@ returns-clause-mended g c ready blocks w =
     let F = g.S.Symbol.Field.algebra in
     let meaning = g.S.Symbol.Field.meaning in
     let sizes = c.args.group.now.sizes in
-    let before = g.S.Shelf.contents c.args.group.now.shelf in
-    let f = fitting F (shown g.S.Shelf.contents meaning c.args.group.now) ready.fit in
+    let before = g.S.Shelf.contents c.args.group.now.shelf.now in
+    let f = fitting F (seen meaning sizes before) ready.fit in
     let end : c.loop-row.row ≡ sizes.data_rows + sizes.parity_rows = omega (arith, c.rows-row-end.ensures, f.k_high, f.p_high) in
     all_mended F meaning sizes before ready.fit blocks _
-    (subst (λ (r : ℕ). Holds F meaning sizes before (mended_below F meaning sizes blocks before r) (g.S.Shelf.contents c.loop-row.group.shelf)) end (c.loop-row.invariant.held ready blocks w))
+    (rw end at (c.loop-row.invariant.held ready blocks w))

@@ -1,6 +1,6 @@
 use Rattle.std.proofs.Common.{◌∙◌, arith}
-use Rattle.rows.specs.Shown.{shown}
 use Rattle.rules.proofs.Rows.{fitting}
+use Rattle.rules.specs.Views.{seen}
 use Rattle.writes.proofs.Spans.{written_more, all_written}
 use Rattle.writes.proofs.write_symbols.Goals as goal
 
@@ -9,21 +9,21 @@ loop-symbol-preserved g c =
     let F = g.S.Symbol.Field.algebra in
     let meaning = g.S.Symbol.Field.meaning in
     let sizes = c.args.group.now.sizes in
-    let s = shown g.S.Shelf.contents meaning c.args.group.now in
+    let before = g.S.Shelf.contents c.args.group.now.shelf.now in
+    let s = seen meaning sizes before in
     let inv = c.loop-symbol.invariant in
-    let put = c.write_symbol.ensures in
     record {
-      same_sizes = put.sizes ∙ inv.same_sizes;
-      card = c.advance.ensures.card ∙ inv.card;
+      same = record { shelf = inv.same.shelf; sizes = inv.same.sizes };
+      place_sizes = c.advance.ensures.sizes ∙ inv.place_sizes;
       at = λ room. let at = inv.at (omega (arith, room)) in let next = c.advance.ensures.place (omega (arith, room, at)) in omega (arith, at, next);
-      held = written_more F meaning sizes (g.S.Shelf.contents c.args.group.now.shelf) c.args.row c.args.start c.loop-symbol.symbol-index c.loop-symbol.place.index c.args.symbols.now c.symbol-item.result c.coefficient_column-column.result
-          (g.S.Shelf.contents c.loop-symbol.group.shelf) _ (omega arith) c.symbol-item.is (λ room w. let f = fitting F s w.fitting in inv.at (omega arith))
+      held = written_more F meaning sizes before c.args.row c.args.start c.loop-symbol.symbol-index c.loop-symbol.place.index c.args.symbols.now c.symbol-item.result c.coefficient_column-column.result
+          (g.S.Shelf.contents c.loop-symbol.group.shelf.now) _ (omega arith) c.symbol-item.is (λ room w. let f = fitting F s w.fitting in inv.at (omega arith))
           (λ w. let f = fitting F s w.fitting in let h = w.inside in c.coefficient_column-column.ensures (omega arith) (omega arith) (omega arith))
-          inv.held ((rw inv.same_sizes at put.written) inv.card);
+          inv.held (rw inv.place_sizes at c.write_symbol.ensures);
     }
 
 pub returns-clause-written : goal.returns-clause-written
 returns-clause-written g c =
     let group = c.args.group.now in
-    all_written g.S.Symbol.Field.algebra g.S.Symbol.Field.meaning group.sizes (g.S.Shelf.contents group.shelf) c.args.row c.args.start c.loop-symbol.symbol-index c.args.symbols.now
-    (g.S.Shelf.contents c.loop-symbol.group.shelf) (omega arith) c.loop-symbol.invariant.held
+    all_written g.S.Symbol.Field.algebra g.S.Symbol.Field.meaning group.sizes (g.S.Shelf.contents group.shelf.now) c.args.row c.args.start c.loop-symbol.symbol-index c.args.symbols.now
+    (g.S.Shelf.contents c.loop-symbol.group.shelf.now) (omega arith) c.loop-symbol.invariant.held

@@ -22,4 +22,4 @@ returns g c =
     let contents = g.S.Shelf.contents in
     told_taken F _ (seen meaning c.args.sizes (contents c.args.shelf)) (state contents meaning c.intake.new.self) c.read_cards.result
     c.over-tray.ensures.state c.in_ok-intake.ensures.promise
-    (λ few parities short components. c.read_cards.ensures few parities short components ∙ ap (λ v. cards_of F (seen meaning c.args.sizes (contents v))) c.into_shelf.ensures)
+    (λ few parities short components. c.read_cards.ensures few parities short components ∙ ap (λ v. cards_of F (seen meaning c.args.sizes (contents v))) c.into_shelf-shelf.ensures)

@@ -1,41 +1,38 @@
-use Rattle.std.proofs.Common.{refl, arith}
+use Rattle.std.proofs.Common.{ℕ, refl, arith}
 use Rattle.std.proofs.lemmas.Result.{err_from_is_err_and}
-use Rattle.rules.specs.Calls.{audit}
+use Rattle.algebra.specs.Algebra.{Field}
+use Rattle.rules.specs.Audits.{AuditExact, ChangesSeen, NoLongerSound}
+use Rattle.rules.specs.Calls.{Answer, audit}
+use Rattle.rules.specs.Promises.{Promise}
+use Rattle.rules.specs.States.{State}
+use Rattle.rules.specs.Twins.{AuditFaithful}
+use Rattle.rules.proofs.Audits.{audit_exact, changes_seen, no_longer_sound}
 use Rattle.rules.proofs.Law.{faithful}
 use Rattle.tray.specs.State.{state}
 use Rattle.tray.proofs.Answering.{row_count, audit_no_row, audit_judged}
-use Rattle.rules.proofs.Audits.{changes_seen}
 use Rattle.tray.proofs.Tray.audit.Goals as goal
 
-pub returns-then-row-rows-clause-promise : goal.returns-then-row-rows-clause-promise
-returns-then-row-rows-clause-promise g c =
-    let F = g.S.Symbol.Field.algebra in
-    let s = state g.S.Shelf.contents g.S.Symbol.Field.meaning c.args.self.now in
-    let all = row_count F s c.in_ok-ready.ensures.0 c.rows.ensures in
-    audit_no_row F s c.in_ok-ready.ensures.0 c.in_ok-ready.ensures.1 c.args.row (omega arith)
+-- all clauses, from the promise
+clauses : {A : Type 0} (F : Field A) (s : State A) (row : ℕ) (answer : Answer A) → Promise F s (audit row) answer s
+    → record { promise : Promise F s (audit row) answer s; exact : AuditExact F; changes : ChangesSeen F; no_longer : NoLongerSound F; after_runs : AuditFaithful F s row answer }
+clauses F s row answer promise =
+    record { promise = promise; exact = audit_exact F; changes = changes_seen F; no_longer = no_longer_sound F; after_runs = (faithful F s).0 row answer s promise }
 
-pub returns-clause-promise : goal.returns-clause-promise
-returns-clause-promise g c =
-    let F = g.S.Symbol.Field.algebra in
-    let s = state g.S.Shelf.contents g.S.Symbol.Field.meaning c.args.self.now in
-    let all = row_count F s c.in_ok-ready.ensures.0 c.rows.ensures in
-    audit_judged F s c.in_ok-ready.ensures.0 c.in_ok-ready.ensures.1 c.args.row c.audit.result (omega arith) (c.audit.ensures c.in_ok-ready.ensures.0)
-
-pub returns-in_err-ready-clause-after_runs : goal.returns-in_err-ready-clause-after_runs
-returns-in_err-ready-clause-after_runs g c =
+pub returns-in_err-ready : goal.returns-in_err-ready
+returns-in_err-ready g c =
     let q = err_from_is_err_and c.from_residual.result c.from_residual.ensures.1 in
-    rw (q.1, q.2)
-    ((faithful g.S.Symbol.Field.algebra (state g.S.Shelf.contents g.S.Symbol.Field.meaning c.args.self.now)).0 c.args.row _ _ (c.in_err-ready.ensures (audit c.args.row) refl))
+    clauses g.S.Symbol.Field.algebra (state g.S.Shelf.contents g.S.Symbol.Field.meaning c.args.self.now) c.args.row _ (rw (q.1, q.2) (c.in_err-ready.ensures (audit c.args.row) refl))
 
-pub returns-clause-after_runs : goal.returns-clause-after_runs
-returns-clause-after_runs g c =
-    (faithful g.S.Symbol.Field.algebra (state g.S.Shelf.contents g.S.Symbol.Field.meaning c.args.self.now)).0 c.args.row _ _ (returns-clause-promise g c)
+pub returns-then-row-rows : goal.returns-then-row-rows
+returns-then-row-rows g c =
+    let F = g.S.Symbol.Field.algebra in
+    let s = state g.S.Shelf.contents g.S.Symbol.Field.meaning c.args.self.now in
+    let all = row_count F s c.in_ok-ready.ensures.0 c.rows.ensures in
+    clauses F s c.args.row _ (audit_no_row F s c.in_ok-ready.ensures.0 c.in_ok-ready.ensures.1 c.args.row (omega arith))
 
-pub returns-in_err-ready-clause-changes : goal.returns-in_err-ready-clause-changes
-returns-in_err-ready-clause-changes g c = changes_seen g.S.Symbol.Field.algebra
-
-pub returns-then-row-rows-clause-changes : goal.returns-then-row-rows-clause-changes
-returns-then-row-rows-clause-changes g c = changes_seen g.S.Symbol.Field.algebra
-
-pub returns-clause-changes : goal.returns-clause-changes
-returns-clause-changes g c = changes_seen g.S.Symbol.Field.algebra
+pub returns : goal.returns
+returns g c =
+    let F = g.S.Symbol.Field.algebra in
+    let s = state g.S.Shelf.contents g.S.Symbol.Field.meaning c.args.self.now in
+    let all = row_count F s c.in_ok-ready.ensures.0 c.rows.ensures in
+    clauses F s c.args.row _ (audit_judged F s c.in_ok-ready.ensures.0 c.in_ok-ready.ensures.1 c.args.row c.audit.result (omega arith) ((rw (c.group.ensures.sizes, c.group.ensures.shelf) at c.audit.ensures) c.in_ok-ready.ensures.0))

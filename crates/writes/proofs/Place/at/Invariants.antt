@@ -2,4 +2,4 @@ use Rattle.std.proofs.Common.{◌≡◌}
 use Rattle.writes.proofs.Place.at.Given as goal
 
 abbrev pub invariant-loop-place : goal.invariant-loop-place
-invariant-loop-place g l = (l.place.index ≡ l._place) × (l.place.card_length ≡ l.card_length)
+invariant-loop-place g l = (l.place.index ≡ l._place) × (l.place.sizes ≡ l.fn.sizes)

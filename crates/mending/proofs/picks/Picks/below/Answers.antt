@@ -1,6 +1,6 @@
-use Rattle.std.proofs.Common.{◌≡◌, ◌<◌, ◌+◌, ℕ, length, get_or, sym, ap, ◌∙◌, subst, subst₂, arith, length-set}
+use Rattle.std.proofs.Common.{◌≡◌, ◌<◌, ℕ, length, get_or, sym, ap, ◌∙◌, subst, arith, length-set}
 use Rattle.mending.specs.Picked.{Picked}
-use Rattle.mending.proofs.Picking.{Picking, picking_hit, picking_miss, picking_full}
+use Rattle.mending.proofs.Picking.{picking_hit, picking_miss, picking_full}
 use Rattle.mending.proofs.picks.Picks.below.Goals as goal
 use Rattle.mending.proofs.picks.Picks.below.Goals.{then-count-lt4+then-test, else-count-lt4, else-count-lt4-via-then-count-lt4+else-test, else-count-lt4-via-else-count-lt4}
 
@@ -13,15 +13,13 @@ loop-i-preserved g c =
         length_kept = ap length w.at-is ∙ length-set c.loop-i.at c.loop-i.count i ∙ inv.length_kept;
         few = omega (arith, w.count-is, w.if-count-lt4.true);
         picking = λ passes answers.
-            subst₂ (Picking passes (i + 1)) (sym w.at-is) (sym w.count-is)
-            (picking_hit passes i c.loop-i.at c.loop-i.count (inv.picking passes answers) inv.length_kept w.if-count-lt4.true (sym (answers i _ c.loop-i-test.true w.test.ensures) ∙ w.if-test.true));
+            rw (w.at-is, w.count-is) (picking_hit passes i c.loop-i.at c.loop-i.count (inv.picking passes answers) inv.length_kept w.if-count-lt4.true (sym (answers i _ c.loop-i-test.true w.test.ensures) ∙ w.if-test.true));
       }
       | else-count-lt4 w ↦ record {
         length_kept = ap length w.at-is ∙ inv.length_kept;
         few = omega (arith, w.count-is, inv.few);
         picking = λ passes answers.
-            subst₂ (Picking passes (i + 1)) (sym w.at-is) (sym w.count-is)
-            (elim w.else-count-lt4.branch [
+            rw (w.at-is, w.count-is) (elim w.else-count-lt4.branch [
               | else-count-lt4-via-then-count-lt4+else-test v ↦
                   picking_miss passes i c.loop-i.at c.loop-i.count (inv.picking passes answers) (sym (answers i _ c.loop-i-test.true v.test.ensures) ∙ v.if-test.false)
               | else-count-lt4-via-else-count-lt4 v ↦ picking_full passes i c.loop-i.at c.loop-i.count (inv.picking passes answers) v.if-count-lt4.false

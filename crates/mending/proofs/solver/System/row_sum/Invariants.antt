@@ -1,9 +1,9 @@
-use Rattle.std.proofs.Common.{◌≡◌, ◌-◌}
+use Rattle.std.proofs.Common.{◌≡◌, length}
 use Rattle.algebra.specs.Cauchy.{row}
 use Rattle.mending.specs.Stored.{from, stored}
 use Rattle.mending.proofs.solver.System.row_sum.Given as goal
 
-abbrev pub invariant-loop-j : goal.invariant-loop-j
-invariant-loop-j g l =
+abbrev pub invariant-loop-column : goal.invariant-loop-column
+invariant-loop-column g l =
     let F = g.F.Field.algebra in
-    g.F.Field.meaning l.sum ≡ row F (l.j - l.start) (from l.start (stored F l.self.columns)) (from l.start (stored F l.unknowns)) (g.F.Field.meaning l.point)
+    g.F.Field.meaning l.sum ≡ row F (length l.yielded) (from l.start (stored F l.self.columns)) (from l.start (stored F l.unknowns)) (g.F.Field.meaning l.point)

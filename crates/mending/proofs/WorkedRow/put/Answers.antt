@@ -1,0 +1,13 @@
+use Rattle.mending.specs.Stored.{stored}
+use Rattle.mending.proofs.Putting.{row_put}
+use Rattle.mending.proofs.WorkedRow.put.Goals as goal
+
+pub returns-clause-cells : goal.returns-clause-cells
+returns-clause-cells g c h =
+    let F = g.S.Symbol.Field.algebra in
+    let meaning = g.S.Symbol.Field.meaning in
+    let sizes = c.args.group.now.sizes in
+    let row = c.args.self.now in
+    let same = c.put_block.ensures.same.sizes in
+    row_put F meaning sizes (g.S.Shelf.contents c.args.group.now.shelf.now) (stored F row.weights) row.row (g.S.Shelf.contents c.put_block.new.group.shelf.now) (g.S.Shelf.contents c.put_card.new.self.shelf.now) h
+    (c.put_block.ensures.block h) ((rw same at c.put_card.ensures.cards) h)

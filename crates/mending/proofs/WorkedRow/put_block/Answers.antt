@@ -1,0 +1,22 @@
+use Rattle.std.proofs.Common.{sym, subst, ◌∙◌}
+use Rattle.rows.specs.Cards.{Holds}
+use Rattle.mending.specs.Stored.{stored}
+use Rattle.mending.specs.Puts.{block_cells}
+use Rattle.mending.proofs.Putting.{block_more}
+use Rattle.mending.proofs.WorkedRow.put_block.Goals as goal
+
+pub loop-place-preserved : goal.loop-place-preserved
+loop-place-preserved g c =
+    let F = g.S.Symbol.Field.algebra in
+    let meaning = g.S.Symbol.Field.meaning in
+    let sizes = c.args.group.now.sizes in
+    let before = g.S.Shelf.contents c.args.group.now.shelf.now in
+    let now = g.S.Shelf.contents c.loop-place.group.shelf.now in
+    let same = c.loop-place.invariant.same in
+    let row = c.args.self.now in
+    let weights = stored F row.weights in record {
+      same = record { shelf = same.shelf; sizes = same.sizes };
+      held = λ h.
+          subst (Holds F meaning sizes before (block_cells F meaning sizes weights row.row before _)) (sym c.put.ensures.after)
+          (block_more F meaning sizes before weights row.row c.loop-place.place now c.symbol-symbol.result h c.loop-place-test.true (c.loop-place.invariant.held h) (rw (c.read.ensures.sizes ∙ same.sizes, c.read.ensures.shelf) at c.symbol-symbol.ensures));
+    }
