@@ -1,7 +1,11 @@
 // A call's answer as five numbers: its kind, up to three numbers that it carries, and the layer of a refusal.
+ghost use Rattle.std.specs.Prelude.{◌≡◌};
+ghost use Rattle.ffi.specs.Answers.{verdict_kind, verdict_at, layer_number as number_of_layer, carried_numbers, refusal_numbers, given_numbers, result_numbers, entry_given, written_over};
+
 use rules::{Entry, Layer, Refusal, Verdict};
 
-// C has no enums that carry numbers, so kinds and layers have their numbers here.
+// C has no enums that carry numbers, and gets a number where one carries none: kinds and layers have theirs here. They are no `From`, as both sides of one are
+// of other crates.
 pub type Answer = [usize; 5];
 
 // What an accepted call gives.
@@ -16,6 +20,8 @@ pub enum Given {
 }
 
 impl From<Entry> for Given {
+    ghost from_gives = { λ entry given. given ≡ entry_given entry };
+
     fn from(entry: Entry) -> Given {
         match entry {
             Entry::Unread => Given::Unread,
@@ -25,7 +31,10 @@ impl From<Entry> for Given {
 }
 
 // A verdict's kind, and its place or component.
-fn verdict_numbers(verdict: Verdict) -> (usize, usize) {
+fn verdict_numbers(verdict: Verdict) -> (usize, usize)
+    ensures kind { result.0 ≡ verdict_kind verdict }
+    ensures at { result.1 ≡ verdict_at verdict }
+{
     match verdict {
         Verdict::Sound => (0, 0),
         Verdict::Hole(place) => (1, place),
@@ -33,7 +42,9 @@ fn verdict_numbers(verdict: Verdict) -> (usize, usize) {
     }
 }
 
-fn layer_number(layer: Layer) -> usize {
+fn layer_number(layer: Layer) -> usize
+    ensures { result ≡ number_of_layer layer }
+{
     match layer {
         Layer::Call => 1,
         Layer::Shelf => 2,
@@ -42,7 +53,9 @@ fn layer_number(layer: Layer) -> usize {
     }
 }
 
-fn accepted(given: Given) -> Answer {
+fn accepted(given: Given) -> Answer
+    ensures { result ≡ given_numbers given }
+{
     match given {
         Given::Done => [0; 5],
         Given::Found(verdict) => {
@@ -57,7 +70,9 @@ fn accepted(given: Given) -> Answer {
     }
 }
 
-fn carried(refusal: Refusal) -> [usize; 3] {
+fn carried(refusal: Refusal) -> [usize; 3]
+    ensures { result ≡ carried_numbers refusal }
+{
     match refusal {
         Refusal::DoesNotFit | Refusal::NotTakenIn | Refusal::TakenInAlready | Refusal::WrongPhase =>
             [0; 3],
@@ -74,13 +89,17 @@ fn carried(refusal: Refusal) -> [usize; 3] {
 }
 
 // A refusal's kind is its number, 1 to 11.
-fn refused(refusal: Refusal) -> Answer {
+fn refused(refusal: Refusal) -> Answer
+    ensures { result ≡ refusal_numbers refusal }
+{
     let [first, second, third] = carried(refusal);
     let kind = usize::from(refusal.number());
     [kind, first, second, third, layer_number(refusal.layer())]
 }
 
-pub(crate) fn answer(answered: Result<Given, Refusal>) -> Answer {
+pub(crate) fn answer(answered: Result<Given, Refusal>) -> Answer
+    ensures { result ≡ result_numbers answered }
+{
     match answered {
         Ok(given) => accepted(given),
         Err(refusal) => refused(refusal),
@@ -88,8 +107,9 @@ pub(crate) fn answer(answered: Result<Given, Refusal>) -> Answer {
 }
 
 // Writes numbers down, as many as there is room for.
-pub(crate) fn write_down(room: &mut [usize], numbers: &[usize]) {
-    for (slot, number) in room.iter_mut().zip(numbers) {
-        *slot = *number;
-    }
+pub(crate) fn write_down(room: &mut [usize], numbers: &[usize])
+    ensures { room.new ≡ written_over numbers.now room.old }
+{
+    let count = numbers.len().min(room.len());
+    room[..count].copy_from_slice(&numbers[..count]);
 }

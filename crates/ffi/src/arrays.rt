@@ -1,4 +1,8 @@
 // Symbols copied from shelf to shelf, and the parity of a shelf's blocks.
+ghost use Rattle.std.specs.Prelude.{◌≡◌, ◌+◌, ◌<◌, ◌≤◌, length};
+ghost use Rattle.ffi.specs.Copies.{copied};
+ghost use Rattle.ffi.specs.Parity.{parity_written, row_numbers, rows_written};
+
 use algebra::Field;
 use rows::{coefficient_row, combination};
 use rules::Sizes;
@@ -11,6 +15,7 @@ pub const CAPACITY: usize = 279_072;
 pub(crate) fn copy<S: Shelf, T: Shelf<Symbol = S::Symbol>>(from: &S, to: &mut T)
 where
     S::Symbol: Field,
+    ensures { T.Shelf.contents to.new ≡ copied (S.Shelf.contents from.now) (T.Shelf.contents to.old) }
 {
     let places = from.places();
     for row in 0..from.rows() {
@@ -27,6 +32,7 @@ where
 fn parity_row<S: Shelf>(shelf: &S, sizes: Sizes, i: usize, numbers: &mut [usize])
 where
     S::Symbol: Field,
+    ensures { i < 4 → sizes.data_rows ≤ 64 → sizes.data_rows + 4 ≤ S.Symbol.Field.algebra.size → numbers.new ≡ row_numbers S.Symbol.Field.algebra S.Symbol.Field.meaning (S.Shelf.contents shelf.now) sizes i 0 (length numbers.old) }
 {
     let coefficients = coefficient_row::<S::Symbol>(i, sizes.data_rows);
     for (place, number) in numbers.iter_mut().enumerate() {
@@ -34,18 +40,33 @@ where
     }
 }
 
+// Works all parity rows and writes them down, one behind the other, as far as there is room.
+fn parity_rows<S: Shelf>(shelf: &S, sizes: Sizes, numbers: &mut [usize])
+where
+    S::Symbol: Field,
+    ensures { sizes.parity_rows ≤ 4 → sizes.data_rows ≤ 64 → sizes.data_rows + 4 ≤ S.Symbol.Field.algebra.size → numbers.new ≡ rows_written S.Symbol.Field.algebra S.Symbol.Field.meaning (S.Shelf.contents shelf.now) sizes sizes.parity_rows numbers.old }
+{
+    // By index: the contract says where each row's numbers stand, and so does the loop.
+    for i in 0..sizes.parity_rows {
+        let from = i.saturating_mul(sizes.block_length);
+        if from >= numbers.len() {
+            return;
+        }
+        let to = from.saturating_add(sizes.block_length).min(numbers.len());
+        parity_row(shelf, sizes, i, &mut numbers[from..to]);
+    }
+}
+
 // Works all parity rows so many times, as intake does to compare them.
 pub(crate) fn parity<S: Shelf>(shelf: &S, sizes: Sizes, times: usize, numbers: &mut [usize])
 where
     S::Symbol: Field,
+    ensures { sizes.parity_rows ≤ 4 → sizes.data_rows ≤ 64 → sizes.data_rows + 4 ≤ S.Symbol.Field.algebra.size → numbers.new ≡ parity_written S.Symbol.Field.algebra S.Symbol.Field.meaning (S.Shelf.contents shelf.now) sizes times numbers.old }
 {
     if sizes.block_length == 0 {
         return;
     }
     for _time in 0..times {
-        let rows = numbers.chunks_mut(sizes.block_length);
-        for (i, row) in rows.take(sizes.parity_rows).enumerate() {
-            parity_row(shelf, sizes, i, row);
-        }
+        parity_rows(shelf, sizes, numbers);
     }
 }

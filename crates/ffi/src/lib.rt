@@ -1,8 +1,17 @@
 // Trays for callers in C and Rust, for each field: a whole script of calls over an image in lent bytes, the same over lent symbols and marks, the parity
 // rows alone, and the puts of a write one by one. Nothing is kept from one function to the next, so a caller holds no tray.
 // C has no generics and takes no structs of ours, so each function stands here once for each field, with the sizes one by one.
-// That these functions are safe and return is proved. What they answer is not: bench/ compares it with a program of its own.
+// That these functions are safe and return is proved, what scripts and parity rows answer, and what an image holds after a script over lent memory. What the
+// puts answer, and the bytes that a script over an image leaves of it, is not: bench/ compares it with a program of its own.
 #![tactic(auto)]
+
+ghost use Rattle.std.specs.Prelude.{◌≡◌};
+ghost use Rattle.byte_field.specs.Meaning.{byte_algebra, byte_meaning};
+ghost use Rattle.counter_field.specs.Meaning.{counter_algebra, counter_meaning};
+ghost use Rattle.image_shelves.specs.Fields.{byte_image, counter_image};
+ghost use Rattle.ffi.specs.Copies.{MemoryRun};
+ghost use Rattle.ffi.specs.Images.{ImageRun, sizes_in_order};
+ghost use Rattle.ffi.specs.Parity.{ParityOf};
 
 mod answers;
 mod arrays;
@@ -18,12 +27,9 @@ use runs::Memory;
 use script::{Desk, SYMBOLS};
 
 // C gives the sizes in order; no function of Sizes, where four numbers without names could change places.
-fn sizes_of(
-    data_rows: usize,
-    parity_rows: usize,
-    block_length: usize,
-    card_length: usize,
-) -> Sizes {
+fn sizes_of(data_rows: usize, parity_rows: usize, block_length: usize, card_length: usize) -> Sizes
+    ensures { result ≡ sizes_in_order data_rows parity_rows block_length card_length }
+{
     Sizes {
         data_rows,
         parity_rows,
@@ -43,14 +49,16 @@ pub extern "C" fn tray_byte_image(
     script: &[usize],
     numbers: &mut [usize],
     answers: &mut [usize],
-) {
+)
+    ensures { ImageRun byte_image byte_meaning byte_algebra 4200 (sizes_in_order data_rows parity_rows block_length card_length) image.old script.now numbers.old answers.old numbers.new answers.new }
+{
     let sizes = sizes_of(data_rows, parity_rows, block_length, card_length);
     let mut desk = Desk {
         numbers,
         answers,
         symbols: &mut [Byte(0); SYMBOLS],
     };
-    runs::over_image(image, sizes, script, &mut desk);
+    runs::over_image::<Byte>(image, sizes, script, &mut desk);
 }
 
 // Runs a script over an image of the counter field.
@@ -64,14 +72,16 @@ pub extern "C" fn tray_counter_image(
     script: &[usize],
     numbers: &mut [usize],
     answers: &mut [usize],
-) {
+)
+    ensures { ImageRun counter_image counter_meaning counter_algebra 4200 (sizes_in_order data_rows parity_rows block_length card_length) image.old script.now numbers.old answers.old numbers.new answers.new }
+{
     let sizes = sizes_of(data_rows, parity_rows, block_length, card_length);
     let mut desk = Desk {
         numbers,
         answers,
         symbols: &mut [Counter::Low(0); SYMBOLS],
     };
-    runs::over_image(image, sizes, script, &mut desk);
+    runs::over_image::<Counter>(image, sizes, script, &mut desk);
 }
 
 // Runs a script over lent symbols and marks with an image's contents, and puts the symbols back into the image. Steps that damage do nothing.
@@ -85,7 +95,9 @@ pub extern "C" fn tray_byte_array(
     script: &[usize],
     numbers: &mut [usize],
     answers: &mut [usize],
-) {
+)
+    ensures { MemoryRun byte_image byte_meaning byte_algebra SYMBOLS CAPACITY (sizes_in_order data_rows parity_rows block_length card_length) image.old script.now numbers.old answers.old numbers.new answers.new image.new }
+{
     let sizes = sizes_of(data_rows, parity_rows, block_length, card_length);
     let mut desk = Desk {
         numbers,
@@ -96,7 +108,7 @@ pub extern "C" fn tray_byte_array(
         symbols: &mut [Byte(0); CAPACITY],
         marks: &mut [0; CAPACITY],
     };
-    runs::over_memory(image, memory, sizes, script, &mut desk);
+    runs::over_memory::<Byte>(image, memory, sizes, script, &mut desk);
 }
 
 // Works the parity rows of an image so many times, over the image or over lent memory with its contents.
@@ -111,14 +123,16 @@ pub extern "C" fn tray_byte_parity(
     lent: bool,
     times: usize,
     numbers: &mut [usize],
-) {
+)
+    ensures { ParityOf byte_algebra byte_meaning lent CAPACITY (byte_image image.old) (sizes_in_order data_rows parity_rows block_length card_length) times numbers.old numbers.new }
+{
     let sizes = sizes_of(data_rows, parity_rows, block_length, card_length);
     if lent {
         let memory = Memory {
             symbols: &mut [Byte(0); CAPACITY],
             marks: &mut [0; CAPACITY],
         };
-        runs::parity_over_memory(image, memory, sizes, times, numbers);
+        runs::parity_over_memory::<Byte>(image, memory, sizes, times, numbers);
     } else {
         runs::parity_over_image::<Byte>(image, sizes, times, numbers);
     }
@@ -135,7 +149,9 @@ pub extern "C" fn tray_counter_array(
     script: &[usize],
     numbers: &mut [usize],
     answers: &mut [usize],
-) {
+)
+    ensures { MemoryRun counter_image counter_meaning counter_algebra SYMBOLS CAPACITY (sizes_in_order data_rows parity_rows block_length card_length) image.old script.now numbers.old answers.old numbers.new answers.new image.new }
+{
     let sizes = sizes_of(data_rows, parity_rows, block_length, card_length);
     let mut desk = Desk {
         numbers,
@@ -146,7 +162,7 @@ pub extern "C" fn tray_counter_array(
         symbols: &mut [Counter::Low(0); CAPACITY],
         marks: &mut [0; CAPACITY],
     };
-    runs::over_memory(image, memory, sizes, script, &mut desk);
+    runs::over_memory::<Counter>(image, memory, sizes, script, &mut desk);
 }
 
 // Works the parity rows of an image so many times, over the image or over lent memory with its contents.
@@ -161,14 +177,16 @@ pub extern "C" fn tray_counter_parity(
     lent: bool,
     times: usize,
     numbers: &mut [usize],
-) {
+)
+    ensures { ParityOf counter_algebra counter_meaning lent CAPACITY (counter_image image.old) (sizes_in_order data_rows parity_rows block_length card_length) times numbers.old numbers.new }
+{
     let sizes = sizes_of(data_rows, parity_rows, block_length, card_length);
     if lent {
         let memory = Memory {
             symbols: &mut [Counter::Low(0); CAPACITY],
             marks: &mut [0; CAPACITY],
         };
-        runs::parity_over_memory(image, memory, sizes, times, numbers);
+        runs::parity_over_memory::<Counter>(image, memory, sizes, times, numbers);
     } else {
         runs::parity_over_image::<Counter>(image, sizes, times, numbers);
     }

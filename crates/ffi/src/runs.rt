@@ -1,26 +1,38 @@
 // Scripts over trays of either field. The local buffers are the callers', since an array of a type parameter is refused.
 // An image and its tray's sizes stand side by side: with both in a struct, the functions that copy the image into lent memory got no proof (their borrows are
 // not covered).
+ghost use Rattle.std.specs.Prelude.{◌≡◌, ℕ, ◌+◌, ◌≤◌, length, min};
+ghost use Rattle.image_shelves.specs.Layout.{image_contents};
+ghost use Rattle.shelves.specs.Array.{array_contents};
+ghost use Rattle.ffi.specs.Copies.{MemoryRun, copied, lent_contents};
+ghost use Rattle.ffi.specs.Images.{ImageRun, Struck};
+ghost use Rattle.ffi.specs.Parity.{parity_written};
+ghost use Rattle.ffi.specs.Runs.{SameDesk};
+
 use crate::arrays::{copy, parity};
 use crate::recorded::Recorded;
 use crate::script::{Desk, Step, load};
-use algebra::OwnSymbols;
-use image_shelves::ImageShelf;
+use algebra::{Field, OwnSymbols};
+use image_shelves::{ImageShelf, image_put};
 use rules::Sizes;
 use shelves::{ArrayShelf, Shelf};
 use tray::Tray;
 
 // Lent memory for the symbols of a tray, each with its mark.
+// The clauses below speak of its room as of a number that it equals: with the lengths themselves, the callers got no proof over their large arrays.
 pub struct Memory<'a, F> {
     pub symbols: &'a mut [F],
     pub marks: &'a mut [u8],
 }
 
 // Sets a byte of the image under a tray.
-fn damage<'a, F: OwnSymbols>(tray: &mut Tray<ImageShelf<'a, F>>, step: Step) {
+fn damage<'a, F: OwnSymbols>(tray: &mut Tray<ImageShelf<'a, F>>, step: Step)
+    ensures { Struck tray.old step tray.new }
+{
     let bytes = tray.replace_shelf(ImageShelf::over(&mut [])).into_bytes();
-    if let Some(byte) = bytes.get_mut(step.first) {
-        *byte = (step.second % 256) as u8;
+    // By an index: of a slice that `get_mut` was asked of, no proof knows what it ends as.
+    if step.first < bytes.len() {
+        bytes[step.first] = (step.second % 256) as u8;
     }
     let _ = tray.replace_shelf(ImageShelf::over(bytes));
 }
@@ -30,13 +42,18 @@ pub(crate) fn over_image<F: OwnSymbols>(
     sizes: Sizes,
     script: &[usize],
     desk: &mut Desk<'_, F>,
-) {
+)
+    ensures run { ImageRun (image_contents F.CodedField.kind F.CodedField.width F.Field.algebra.size F.Field.symbol) F.Field.meaning F.Field.algebra (length desk.old.symbols.now) sizes image.old script.now desk.old.numbers.now desk.old.answers.now desk.new.numbers.now desk.new.answers.now }
+    ensures same { SameDesk desk.old desk.new }
+{
     let mut tray = Tray::over(ImageShelf::<F>::over(image), sizes);
     desk.run(script, &mut tray, damage);
 }
 
 // A shelf over lent memory with an image's contents.
-fn lent<'a, F: OwnSymbols>(image: &ImageShelf<'_, F>, memory: Memory<'a, F>) -> ArrayShelf<'a, F> {
+fn lent<'a, F: OwnSymbols>(image: &ImageShelf<'_, F>, memory: Memory<'a, F>) -> ArrayShelf<'a, F>
+    ensures { (capacity : ℕ) → min (length memory.entry.symbols.now) (length memory.entry.marks.now) ≡ capacity → array_contents result ≡ lent_contents capacity (image_contents F.CodedField.kind F.CodedField.width F.Field.algebra.size F.Field.symbol image.now.bytes.now) }
+{
     let Memory { symbols, marks } = memory;
     let rows = image.rows();
     let places = image.places();
@@ -44,9 +61,42 @@ fn lent<'a, F: OwnSymbols>(image: &ImageShelf<'_, F>, memory: Memory<'a, F>) -> 
         .saturating_mul(places)
         .min(symbols.len())
         .min(marks.len());
+    // Whatever the marks were: a hole in the image is a hole here.
+    marks.fill(0);
     let mut shelf = ArrayShelf::over(rows, places, &mut symbols[..size], &mut marks[..size]);
     copy(image, &mut shelf);
     shelf
+}
+
+// The same over an image's bytes, which stay as they are.
+fn in_memory<'a, F: OwnSymbols>(image: &mut [u8], memory: Memory<'a, F>) -> ArrayShelf<'a, F>
+    ensures contents { (capacity : ℕ) → min (length memory.entry.symbols.now) (length memory.entry.marks.now) ≡ capacity → array_contents result ≡ lent_contents capacity (image_contents F.CodedField.kind F.CodedField.width F.Field.algebra.size F.Field.symbol image.old) }
+    ensures same { image.new ≡ image.old }
+{
+    lent(&ImageShelf::over(image), memory)
+}
+
+// Damages nothing: lent memory has no bytes of an image. A function, since the run's contract says what its damage promises.
+fn no_damage<S: Shelf>(_tray: &mut Tray<S>, _step: Step)
+where
+    S::Symbol: Field,
+    ensures { _tray.new ≡ _tray.old }
+{}
+
+// Puts the symbols of a shelf into an image. By its bytes: of a shelf over them that `copy` has put to, no proof knows that it is still over the same ones.
+fn put_back<F: OwnSymbols, S: Shelf<Symbol = F>>(from: &S, image: &mut [u8])
+    ensures { image_contents F.CodedField.kind F.CodedField.width F.Field.algebra.size F.Field.symbol image.new ≡ copied (S.Shelf.contents from.now) (image_contents F.CodedField.kind F.CodedField.width F.Field.algebra.size F.Field.symbol image.old) }
+{
+    let places = from.places();
+    for row in 0..from.rows() {
+        for place in 0..places {
+            if let Some(symbol) = from.get(row, place).symbol() {
+                // Called for its promise alone, as by the image's shelf.
+                let _ = symbol.code_number();
+                let _ = image_put(image, row, place, symbol);
+            }
+        }
+    }
 }
 
 // Runs a script over lent memory with an image's contents, and puts the symbols back into the image. Steps that damage do nothing.
@@ -56,11 +106,13 @@ pub(crate) fn over_memory<F: OwnSymbols>(
     sizes: Sizes,
     script: &[usize],
     desk: &mut Desk<'_, F>,
-) {
-    let mut image = ImageShelf::<F>::over(image);
-    let mut tray = Tray::over(lent(&image, memory), sizes);
-    desk.run(script, &mut tray, |_, _| {});
-    copy(&tray.into_shelf(), &mut image);
+)
+    ensures run { (capacity : ℕ) → min (length memory.entry.symbols.now) (length memory.entry.marks.now) ≡ capacity → MemoryRun (image_contents F.CodedField.kind F.CodedField.width F.Field.algebra.size F.Field.symbol) F.Field.meaning F.Field.algebra (length desk.old.symbols.now) capacity sizes image.old script.now desk.old.numbers.now desk.old.answers.now desk.new.numbers.now desk.new.answers.now image.new }
+    ensures same { SameDesk desk.old desk.new }
+{
+    let mut tray = Tray::over(in_memory(image, memory), sizes);
+    desk.run(script, &mut tray, no_damage);
+    put_back(&tray.into_shelf(), image);
 }
 
 pub(crate) fn parity_over_image<F: OwnSymbols>(
@@ -68,7 +120,9 @@ pub(crate) fn parity_over_image<F: OwnSymbols>(
     sizes: Sizes,
     times: usize,
     numbers: &mut [usize],
-) {
+)
+    ensures { sizes.parity_rows ≤ 4 → sizes.data_rows ≤ 64 → sizes.data_rows + 4 ≤ F.Field.algebra.size → numbers.new ≡ parity_written F.Field.algebra F.Field.meaning (image_contents F.CodedField.kind F.CodedField.width F.Field.algebra.size F.Field.symbol image.old) sizes times numbers.old }
+{
     parity(&ImageShelf::<F>::over(image), sizes, times, numbers);
 }
 
@@ -78,7 +132,9 @@ pub(crate) fn parity_over_memory<F: OwnSymbols>(
     sizes: Sizes,
     times: usize,
     numbers: &mut [usize],
-) {
+)
+    ensures { (capacity : ℕ) → min (length memory.entry.symbols.now) (length memory.entry.marks.now) ≡ capacity → sizes.parity_rows ≤ 4 → sizes.data_rows ≤ 64 → sizes.data_rows + 4 ≤ F.Field.algebra.size → numbers.new ≡ parity_written F.Field.algebra F.Field.meaning (lent_contents capacity (image_contents F.CodedField.kind F.CodedField.width F.Field.algebra.size F.Field.symbol image.old)) sizes times numbers.old }
+{
     let image = ImageShelf::<F>::over(image);
     parity(&lent(&image, memory), sizes, times, numbers);
 }

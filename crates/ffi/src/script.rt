@@ -1,4 +1,12 @@
 // A script: one step after another, each a call with its arguments. It runs over a tray on any shelf.
+ghost use Rattle.std.specs.Prelude.{◌≡◌, ℕ, ◌-◌, ◌*◌, ◌/◌, ◌^◌, length, map, min};
+ghost use Rattle.rules.specs.Calls.{buffer_after};
+ghost use Rattle.rules.specs.Promises.{Promise};
+ghost use Rattle.tray.specs.State.{state};
+ghost use Rattle.ffi.specs.Answers.{result_numbers, written_at, written_over};
+ghost use Rattle.ffi.specs.Script.{deed_of, step_of, elements, call_of, told, Called};
+ghost use Rattle.ffi.specs.Runs.{ByClosure, Resulting, Runs, SameDesk, Taken};
+
 use crate::answers::{Given, answer, write_down};
 use algebra::Field;
 use rules::Refusal;
@@ -33,6 +41,8 @@ pub enum Deed {
 
 // C names deeds by numbers: the calls in the order of the rules, and damage. Every other number is a mend.
 impl From<usize> for Deed {
+    ghost from_gives = { λ number deed. deed ≡ deed_of number };
+
     fn from(number: usize) -> Deed {
         Deed::Call(match number {
             0 => Call::Fit,
@@ -52,7 +62,7 @@ impl From<usize> for Deed {
     }
 }
 
-// A deed and three numbers: a row, a start and a count of symbols, or what else it takes.
+// A deed and three numbers: a row, a start and a count of symbols, or what else it takes. C gives four words for each step, so no deed has fields of its own.
 #[derive(Clone, Copy)]
 pub struct Step {
     pub deed: Deed,
@@ -62,6 +72,8 @@ pub struct Step {
 }
 
 impl From<[usize; 4]> for Step {
+    ghost from_gives = { λ words step. step ≡ step_of words };
+
     fn from(words: [usize; 4]) -> Step {
         let [deed, first, second, count] = words;
         Step {
@@ -74,19 +86,23 @@ impl From<[usize; 4]> for Step {
 }
 
 // Sets the symbols of numbers, and those beyond the numbers to zero.
-pub(crate) fn load<F: Field>(numbers: &[usize], symbols: &mut [F]) {
-    let mut numbers = numbers.iter();
-    for symbol in symbols {
-        *symbol = numbers
-            .next()
-            .map_or(F::zero(), |number| rows::element(*number));
+pub(crate) fn load<F: Field>(numbers: &[usize], symbols: &mut [F])
+    ensures { map F.Field.meaning symbols.new ≡ elements F.Field.algebra numbers.now 0 (length symbols.old) }
+{
+    for (i, symbol) in symbols.iter_mut().enumerate() {
+        *symbol = rows::element(numbers.get(i).copied().unwrap_or(0));
     }
 }
 
 // Writes the numbers of symbols back, where there is room.
-fn unload<F: Field>(symbols: &[F], numbers: &mut [usize]) {
-    for (number, symbol) in numbers.iter_mut().zip(symbols) {
-        *number = symbol.number();
+fn unload<F: Field>(symbols: &[F], numbers: &mut [usize])
+    ensures { numbers.new ≡ written_over (map (λ x. F.Field.algebra.number (F.Field.meaning x)) symbols.now) numbers.old }
+{
+    // By an index: of a slice that `get_mut` was asked of, no proof knows what it ends as.
+    for (i, symbol) in symbols.iter().enumerate() {
+        if i < numbers.len() {
+            numbers[i] = symbol.number();
+        }
     }
 }
 
@@ -98,6 +114,8 @@ fn make<S: Shelf>(
 ) -> Result<Given, Refusal>
 where
     S::Symbol: Field,
+    ensures promise { Promise S.Symbol.Field.algebra (state S.Shelf.contents S.Symbol.Field.meaning tray.old) (call_of call step (map S.Symbol.Field.meaning symbols.old)) (told call (map S.Symbol.Field.meaning symbols.new) result) (state S.Shelf.contents S.Symbol.Field.meaning tray.new) }
+    ensures symbols { map S.Symbol.Field.meaning symbols.new ≡ buffer_after (map S.Symbol.Field.meaning symbols.old) (told call (map S.Symbol.Field.meaning symbols.new) result) }
 {
     match call {
         Call::Fit => tray.fit().map(|()| Given::Done),
@@ -131,6 +149,7 @@ fn make_call<S: Shelf>(
 ) -> Result<Given, Refusal>
 where
     S::Symbol: Field,
+    ensures { Called S.Symbol.Field.algebra (state S.Shelf.contents S.Symbol.Field.meaning tray.old) call step 0 (min step.count (length buffer.old)) numbers.old (result_numbers result) numbers.new (state S.Shelf.contents S.Symbol.Field.meaning tray.new) }
 {
     let count = step.count.min(buffer.len());
     let symbols = &mut buffer[..count];
@@ -142,7 +161,7 @@ where
 
 // What a script works on: the numbers of the symbols that its steps take and give, one step after another, room for their answers, and a buffer for the
 // symbols of one step.
-// The script stands beside it: while its slice is lent, no other part of a desk could be changed.
+// The script stands beside it: it is only read, and a desk is what a run writes on.
 #[derive(Drop)]
 pub struct Desk<'a, F> {
     pub numbers: &'a mut [usize],
@@ -151,6 +170,58 @@ pub struct Desk<'a, F> {
 }
 
 impl<'a, F: Field> Desk<'a, F> {
+    // Makes a step's call on a tray, with its numbers from an index on.
+    fn call<S: Shelf<Symbol = F>>(
+        &mut self,
+        tray: &mut Tray<S>,
+        call: Call,
+        step: Step,
+        from: usize,
+    ) -> Result<Given, Refusal>
+        ensures result { (start : ℕ) → from ≡ min start (2 ^ 64 - 1) → Resulting S.Shelf.contents F.Field.meaning F.Field.algebra (length self.old.symbols.now) step start call result tray.old self.old.numbers.now tray.new self.new.numbers.now }
+        ensures answers { self.new.answers.now ≡ self.old.answers.now }
+        ensures room { length self.new.symbols.now ≡ length self.old.symbols.now }
+        ensures same { SameDesk self.old self.new }
+    {
+        let from = from.min(self.numbers.len());
+        make_call(tray, call, step, &mut self.numbers[from..], self.symbols)
+    }
+
+    // Writes down the answer of the step at an index.
+    fn write_answer(&mut self, index: usize, answered: Result<Given, Refusal>)
+        ensures answers { self.new.answers.now ≡ written_at (5 * index) (result_numbers answered) self.old.answers.now }
+        ensures numbers { self.new.numbers.now ≡ self.old.numbers.now }
+        ensures room { length self.new.symbols.now ≡ length self.old.symbols.now }
+        ensures same { SameDesk self.old self.new }
+    {
+        let at = index.saturating_mul(5).min(self.answers.len());
+        write_down(&mut self.answers[at..], &answer(answered));
+    }
+
+    // Takes the step at an index of a script, its numbers from another index on.
+    fn take<S: Shelf<Symbol = F>, D: Fn(&mut Tray<S>, Step)>(
+        &mut self,
+        tray: &mut Tray<S>,
+        damage: &D,
+        step: Step,
+        index: usize,
+        from: usize,
+    )
+        requires { D.IsAlwaysCallable damage.now }
+        ensures taken { (start : ℕ) → from ≡ min start (2 ^ 64 - 1) → Taken S.Shelf.contents F.Field.meaning F.Field.algebra (ByClosure D.Fn damage.now) (length self.old.symbols.now) step start (5 * index) tray.old self.old.numbers.now self.old.answers.now tray.new self.new.numbers.now self.new.answers.now }
+        ensures room { length self.new.symbols.now ≡ length self.old.symbols.now }
+        ensures same { SameDesk self.old self.new }
+    {
+        let answered = match step.deed {
+            Deed::Call(call) => self.call(tray, call, step, from),
+            Deed::Damage => {
+                damage(tray, step);
+                Ok(Given::Done)
+            }
+        };
+        self.write_answer(index, answered);
+    }
+
     // Runs a script over a tray, four words a step; `damage` is how a step damages the tray.
     pub(crate) fn run<S: Shelf<Symbol = F>, D: Fn(&mut Tray<S>, Step)>(
         &mut self,
@@ -159,24 +230,15 @@ impl<'a, F: Field> Desk<'a, F> {
         damage: D,
     )
         requires { D.IsAlwaysCallable damage }
+        ensures runs { Runs S.Shelf.contents F.Field.meaning F.Field.algebra (ByClosure D.Fn damage) (length self.old.symbols.now) script.now tray.old self.old.numbers.now self.old.answers.now (length script.now / 4) tray.new self.new.numbers.now self.new.answers.now }
+        ensures same { SameDesk self.old self.new }
     {
+        // Where a step's numbers begin is carried along, as each takes its own share; and a step is made where there is no room for its answer, too.
         let mut from: usize = 0;
         for (index, words) in script.as_chunks::<4>().0.iter().enumerate() {
             let step = Step::from(*words);
-            let answered = match step.deed {
-                Deed::Call(call) => {
-                    let from = from.min(self.numbers.len());
-                    make_call(tray, call, step, &mut self.numbers[from..], self.symbols)
-                }
-                Deed::Damage => {
-                    damage(tray, step);
-                    Ok(Given::Done)
-                }
-            };
+            self.take(tray, &damage, step, index, from);
             from = from.saturating_add(step.count);
-            if let Some(room) = self.answers.get_mut(index.saturating_mul(5)..) {
-                write_down(room, &answer(answered));
-            }
         }
     }
 }

@@ -1,0 +1,7 @@
+pub mod Numbers
+pub mod Told
+pub mod Running
+pub mod Shelving
+pub mod Rows
+pub mod Copying
+pub mod Lending

@@ -1,0 +1,6 @@
+pub mod Answers
+pub mod Script
+pub mod Runs
+pub mod Images
+pub mod Parity
+pub mod Copies
