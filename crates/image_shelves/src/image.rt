@@ -1,4 +1,4 @@
-// A shelf over an image, of any coded field.
+// A shelf over an image, of any coded field with one symbol for each element.
 ghost use Rattle.std.specs.Prelude.{◌≡◌};
 ghost use Rattle.shelves.specs.Contents.{put_answer, after_put};
 ghost use Rattle.image_shelves.specs.Fields.{Lent, Stored};
