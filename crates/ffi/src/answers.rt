@@ -4,8 +4,8 @@ ghost use Rattle.ffi.specs.Answers.{verdict_kind, verdict_at, layer_number as nu
 
 use rules::{Entry, Layer, Refusal, Verdict};
 
-// C has no enums that carry numbers, and gets a number where one carries none: kinds and layers have theirs here. They are no `From`, as both sides of one are
-// of other crates.
+// C has no enums that carry numbers, and gets a number where one carries none: kinds and layers have theirs here. Those of verdicts and layers are no `From`, as both
+// sides are of other crates; `accepted` stands beside `refused`, which could be none either.
 pub type Answer = [usize; 5];
 
 // What an accepted call gives.

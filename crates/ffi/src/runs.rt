@@ -18,7 +18,7 @@ use rules::Sizes;
 use shelves::{ArrayShelf, Shelf};
 use tray::Tray;
 
-// Lent memory for the symbols of a tray, each with its mark.
+// Lent memory for the symbols of a tray, each with its mark: two slices, as `ArrayShelf` takes them.
 // The clauses below speak of its room as of a number that it equals: with the lengths themselves, the callers got no proof over their large arrays.
 pub struct Memory<'a, F> {
     pub symbols: &'a mut [F],

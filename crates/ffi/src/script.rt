@@ -85,7 +85,7 @@ impl From<[usize; 4]> for Step {
     }
 }
 
-// Sets the symbols of numbers, and those beyond the numbers to zero.
+// Sets the symbols of numbers, and those beyond the numbers to zero. What is alike with mending's `stored` is one line, and ffi does not stand on mending.
 pub(crate) fn load<F: Field>(numbers: &[usize], symbols: &mut [F])
     ensures { map F.Field.meaning symbols.new ≡ elements F.Field.algebra numbers.now 0 (length symbols.old) }
 {
@@ -139,7 +139,7 @@ where
     }
 }
 
-// Makes a call. Its symbols, lent to read and given to write, are the first of the numbers, and come back as the call leaves them.
+// Makes a call. It goes in beside its step, whose deed may be damage too and is taken apart once, in `take`. Its symbols, lent to read and given to write, are the first of the numbers, and come back as the call leaves them.
 fn make_call<S: Shelf>(
     tray: &mut Tray<S>,
     call: Call,

@@ -1,10 +1,10 @@
-// Each call's answer in words, one line each. The runtime and the bench are two arguments, since half of these need no bench.
+// Each call's answer in words, one line each. The runtime and the bench are two arguments, since some of these need no bench.
 use crate::bench::{Bench, Rows};
 use algebra::Field;
 use rules::{Entry, Refusal, Verdict};
 use std::{fmt, io};
 
-// What an accepted call gives. As ffi's Given, but for words: neither program stands on the other.
+// What an accepted call gives. As ffi's Given, but for words: neither crate stands on the other.
 #[derive(Clone, Copy)]
 enum Told {
     Done,

@@ -141,7 +141,8 @@ where
         Ok(())
     }
 
-    // The checks that all calls but fit and intake share. As in intake the first is by `fits`: fit's own contract tells a refusal by its number alone.
+    // The checks that all calls but fit and intake share. As in intake the first is by `fits`, which says plainly whether the tray fits; out of fit's
+    // answer a proof would have to take that first.
     #[tactic(auto, using(crate::proofs::Answering::unfit_refused, crate::proofs::Answering::early_refused))]
     fn ready(&self) -> Result<(), Refusal>
         ensures { Ready S.Symbol.Field.algebra (state S.Shelf.contents S.Symbol.Field.meaning self.now) result }

@@ -14,7 +14,7 @@ use rules::Sizes;
 use shelves::Shelf;
 use std::marker::PhantomData;
 
-// The numbers of the coefficients of one data row, one for each parity row.
+// The numbers of the coefficients of one data row, one for each parity row. Numbers, and always four with the count beside them, as for the powers of a place.
 fn coefficient_column<F: Field>(row: usize, parity_rows: usize) -> [usize; 4]
     ensures { row < 64 → parity_rows ≤ 4 → row + 4 < F.Field.algebra.size → Column F.Field.algebra row parity_rows result }
 {
