@@ -124,7 +124,8 @@ pub extern "C" fn tray_byte_parity(
     times: usize,
     numbers: &mut [usize],
 )
-    ensures { ParityOf byte_algebra byte_meaning lent CAPACITY (byte_image image.old) (sizes_in_order data_rows parity_rows block_length card_length) times numbers.old numbers.new }
+    ensures numbers { ParityOf byte_algebra byte_meaning lent CAPACITY (byte_image image.old) (sizes_in_order data_rows parity_rows block_length card_length) times numbers.old numbers.new }
+    ensures image { image.new ≡ image.old }
 {
     let sizes = sizes_of(data_rows, parity_rows, block_length, card_length);
     if lent {
@@ -178,7 +179,8 @@ pub extern "C" fn tray_counter_parity(
     times: usize,
     numbers: &mut [usize],
 )
-    ensures { ParityOf counter_algebra counter_meaning lent CAPACITY (counter_image image.old) (sizes_in_order data_rows parity_rows block_length card_length) times numbers.old numbers.new }
+    ensures numbers { ParityOf counter_algebra counter_meaning lent CAPACITY (counter_image image.old) (sizes_in_order data_rows parity_rows block_length card_length) times numbers.old numbers.new }
+    ensures image { image.new ≡ image.old }
 {
     let sizes = sizes_of(data_rows, parity_rows, block_length, card_length);
     if lent {

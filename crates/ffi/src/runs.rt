@@ -121,7 +121,8 @@ pub(crate) fn parity_over_image<F: OwnSymbols>(
     times: usize,
     numbers: &mut [usize],
 )
-    ensures { sizes.parity_rows ≤ 4 → sizes.data_rows ≤ 64 → sizes.data_rows + 4 ≤ F.Field.algebra.size → numbers.new ≡ parity_written F.Field.algebra F.Field.meaning (image_contents F.CodedField.kind F.CodedField.width F.Field.algebra.size F.Field.symbol image.old) sizes times numbers.old }
+    ensures numbers { sizes.parity_rows ≤ 4 → sizes.data_rows ≤ 64 → sizes.data_rows + 4 ≤ F.Field.algebra.size → numbers.new ≡ parity_written F.Field.algebra F.Field.meaning (image_contents F.CodedField.kind F.CodedField.width F.Field.algebra.size F.Field.symbol image.old) sizes times numbers.old }
+    ensures image { image.new ≡ image.old }
 {
     parity(&ImageShelf::<F>::over(image), sizes, times, numbers);
 }
@@ -133,7 +134,8 @@ pub(crate) fn parity_over_memory<F: OwnSymbols>(
     times: usize,
     numbers: &mut [usize],
 )
-    ensures { (capacity : ℕ) → min (length memory.entry.symbols.now) (length memory.entry.marks.now) ≡ capacity → sizes.parity_rows ≤ 4 → sizes.data_rows ≤ 64 → sizes.data_rows + 4 ≤ F.Field.algebra.size → numbers.new ≡ parity_written F.Field.algebra F.Field.meaning (lent_contents capacity (image_contents F.CodedField.kind F.CodedField.width F.Field.algebra.size F.Field.symbol image.old)) sizes times numbers.old }
+    ensures numbers { (capacity : ℕ) → min (length memory.entry.symbols.now) (length memory.entry.marks.now) ≡ capacity → sizes.parity_rows ≤ 4 → sizes.data_rows ≤ 64 → sizes.data_rows + 4 ≤ F.Field.algebra.size → numbers.new ≡ parity_written F.Field.algebra F.Field.meaning (lent_contents capacity (image_contents F.CodedField.kind F.CodedField.width F.Field.algebra.size F.Field.symbol image.old)) sizes times numbers.old }
+    ensures image { image.new ≡ image.old }
 {
     let image = ImageShelf::<F>::over(image);
     parity(&lent(&image, memory), sizes, times, numbers);
