@@ -5,3 +5,4 @@ pub mod Shelving
 pub mod Rows
 pub mod Copying
 pub mod Lending
+pub mod Putting

@@ -16,7 +16,7 @@ written_none : (at : ℕ) (room : List ℕ) → written_at at [] room ≡ room
 written_none at room =
     ap (λ (v : List ℕ). take at room ++ (v ++ drop at room)) (take_all (length (drop at room)) [] (omega arith)) ∙ take-append-drop at room
 
-written_beyond : (at : ℕ) (xs room : List ℕ) → length room ≤ at → written_at at xs room ≡ room
+pub written_beyond : (at : ℕ) (xs room : List ℕ) → length room ≤ at → written_at at xs room ≡ room
 written_beyond at xs room h =
     let rest : drop at room ≡ [] = drop_all at room h in
     let none : take 0 xs ++ drop (length xs) [] ≡ [] = ap (λ (v : List ℕ). take 0 xs ++ v) (drop_all (length xs) [] (omega arith)) in

@@ -1,6 +1,7 @@
 -- Scripts over trays, new ones over an image's bytes.
 use Rattle.std.specs.Prelude.{◌≡◌, ℕ, ◌/◌, ◌%◌, false, List, length, slice_set}
 use Rattle.algebra.specs.Algebra.{Field}
+use Rattle.image_shelves.specs.Fields.{bytes_stores}
 use Rattle.image_shelves.specs.declared.image.ImageShelf.{ImageShelf}
 use Rattle.rules.specs.States.{unread}
 use Rattle.rules.specs.declared.Round.TheVariants.{Resting}
@@ -35,8 +36,10 @@ reshelved t shelf = record { shelf = shelf; sizes = t.sizes; taken_in = t.taken_
 abbrev pub BytesStruck : {X : Type 0} → Tray (List ℕ) X → Step → Tray (List ℕ) X → Type 0
 BytesStruck t step t' = t' ≡ reshelved t (slice_set t.shelf step.first (step.second % 256))
 
-module _ {X A : Type 0} (image : List ℕ → Contents X) (meaning : X → A) (F : Field A) (room : ℕ) where
-  -- A whole script over a new tray of these sizes over an image's bytes: what it leaves of the numbers and of the room for answers.
-  abbrev pub ImageRun : Sizes → List ℕ → List ℕ → List ℕ → List ℕ → List ℕ → List ℕ → Type 0
-  ImageRun sizes bytes script ns rs ns' rs' =
-      (last : Tray (List ℕ) X) × Runs image meaning F BytesStruck room script (fresh sizes bytes) ns rs (length script / 4) last ns' rs'
+module _ {X A : Type 0} (kind width : ℕ) (image : List ℕ → Contents X) (meaning : X → A) (F : Field A) (room : ℕ) where
+  -- A whole script over a new tray of these sizes over an image's bytes: what it leaves of the numbers, of the room for answers, and of the bytes. A call puts
+  -- codes and marks into them, damage sets one of them, and nothing else changes any.
+  pub record ImageRun (sizes : Sizes) (bytes script ns rs ns' rs' bytes' : List ℕ) : Type 0 where
+    pub last : Tray (List ℕ) X
+    pub runs : Runs image (bytes_stores kind width F.size) meaning F BytesStruck room script (fresh sizes bytes) ns rs (length script / 4) last ns' rs'
+    pub left : bytes' ≡ last.shelf

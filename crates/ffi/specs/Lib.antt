@@ -4,3 +4,5 @@ pub mod Runs
 pub mod Images
 pub mod Parity
 pub mod Copies
+pub mod Recorded
+pub mod Puts

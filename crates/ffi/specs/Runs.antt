@@ -7,6 +7,7 @@ use Rattle.rules.specs.Calls.{Answer, done, buffer_after}
 use Rattle.rules.specs.Promises.{Promise}
 use Rattle.rules.specs.declared.Refusal.{Refusal}
 use Rattle.shelves.specs.Contents.{Contents}
+use Rattle.shelves.specs.Puts.{ByPuts}
 use Rattle.tray.specs.State.{state}
 use Rattle.tray.specs.declared.Tray.{Tray}
 use Rattle.ffi.specs.Answers.{answer_numbers, result_numbers, written_at}
@@ -39,14 +40,17 @@ pub record ByClosure {D T : Type 0} (g : Shared D (MutBor T × (Step × Unit {0}
   pub met : g.post f (shown, (step, tt)) (tt, (left, tt))
   pub leaves : left.now ≡ t'
 
-module _ {S X A : Type 0} (contents : S → Contents X) (meaning : X → A) (F : Field A) (room : ℕ) where
+-- Below, stores says what a put makes of a shelf.
+module _ {S X Y A : Type 0} (contents : S → Contents X) (stores : S → ℕ → ℕ → Y → S → Type 0) (meaning : X → A) (F : Field A) (room : ℕ) where
   -- the symbols of a step: the elements of its numbers, which begin at an index, no more than there is room for
   abbrev pub symbols_of : Step → ℕ → List ℕ → List A
   symbols_of step start numbers = elements F numbers start (min step.count room)
 
-  -- A call on a tray: it answers as the rules promise, and the numbers of its symbols, as it leaves them, go back where they were taken from.
+  -- A call on a tray: it answers as the rules promise, changes the shelf by puts alone, and the numbers of its symbols, as it leaves them, go back where they
+  -- were taken from.
   pub record Calling (step : Step) (start : ℕ) (call : Call) (answer : Answer A) (t : Tray S X) (numbers : List ℕ) (t' : Tray S X) (numbers' : List ℕ) : Type 0 where
     pub promised : Promise F (state contents meaning t) (call_of call step (symbols_of step start numbers)) answer (state contents meaning t')
+    pub puts : ByPuts stores t.shelf t'.shelf
     pub left : numbers' ≡ written_at start (map F.number (buffer_after (symbols_of step start numbers) answer)) numbers
 
   -- the same, of a result
@@ -55,10 +59,10 @@ module _ {S X A : Type 0} (contents : S → Contents X) (meaning : X → A) (F :
     pub told_as : result_numbers answered ≡ answer_numbers answer
     pub calling : Calling step start call answer t numbers t' numbers'
 
-module _ {S X A : Type 0} (contents : S → Contents X) (meaning : X → A) (F : Field A) (damages : Tray S X → Step → Tray S X → Type 0) (room : ℕ) where
+module _ {S X Y A : Type 0} (contents : S → Contents X) (stores : S → ℕ → ℕ → Y → S → Type 0) (meaning : X → A) (F : Field A) (damages : Tray S X → Step → Tray S X → Type 0) (room : ℕ) where
   -- A step whose numbers begin at an index, and the five numbers of its answer at another. Damage answers as a call that is accepted with nothing to return.
   pub data Taken (step : Step) (start at : ℕ) (t : Tray S X) (ns rs : List ℕ) : Tray S X → List ℕ → List ℕ → Type 0 where
-    called : {t' : Tray S X} {ns' : List ℕ} (call : Call) → step.deed ≡ Calls call → (answer : Answer A) → Calling contents meaning F room step start call answer t ns t' ns'
+    called : {t' : Tray S X} {ns' : List ℕ} (call : Call) → step.deed ≡ Calls call → (answer : Answer A) → Calling contents stores meaning F room step start call answer t ns t' ns'
         → Taken step start at t ns rs t' ns' (written_at at (answer_numbers answer) rs)
     struck : {t' : Tray S X} → step.deed ≡ Damage → damages t step t' → Taken step start at t ns rs t' ns (written_at at (answer_numbers {X = A} done) rs)
 

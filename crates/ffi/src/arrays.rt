@@ -40,7 +40,7 @@ where
     }
 }
 
-// Works all parity rows and writes them down, one behind the other, as far as there is room. The limits of the sizes are premises here and in runs, as in rows.
+// Works all parity rows and writes them down, one behind the other, as far as there is room. The limits of the sizes are premises here and in runs.
 fn parity_rows<S: Shelf>(shelf: &S, sizes: Sizes, numbers: &mut [usize])
 where
     S::Symbol: Field,

@@ -1,17 +1,19 @@
 // Trays for callers in C and Rust, for each field: a whole script of calls over an image in lent bytes, the same over lent symbols and marks, the parity
-// rows alone, and the puts of a write one by one. Nothing is kept from one function to the next, so a caller holds no tray.
+// rows alone, and the puts of an intake and a write one by one. Nothing is kept from one function to the next, so a caller holds no tray.
 // C has no generics and takes no structs of ours, so each function stands here once for each field, with the sizes one by one.
-// That these functions are safe and return is proved, what scripts and parity rows answer, and what an image holds after a script over lent memory. What the
-// puts answer, and the bytes that a script over an image leaves of it, is not: bench/ compares it with a program of its own.
+// That these functions are safe and return is proved, what scripts, parity rows and puts answer, and what they leave of an image: its bytes after a script over
+// it, what it holds after puts, and after a script over lent memory. bench/ compares all of it with a program of its own, for an image every byte.
 #![tactic(auto)]
 
-ghost use Rattle.std.specs.Prelude.{◌≡◌};
+ghost use Rattle.std.specs.Prelude.{◌≡◌, length, min};
 ghost use Rattle.byte_field.specs.Meaning.{byte_algebra, byte_meaning};
 ghost use Rattle.counter_field.specs.Meaning.{counter_algebra, counter_meaning};
 ghost use Rattle.image_shelves.specs.Fields.{byte_image, counter_image};
 ghost use Rattle.ffi.specs.Copies.{MemoryRun};
 ghost use Rattle.ffi.specs.Images.{ImageRun, sizes_in_order};
 ghost use Rattle.ffi.specs.Parity.{ParityOf};
+ghost use Rattle.ffi.specs.Puts.{PutsOf};
+ghost use Rattle.ffi.specs.Script.{elements};
 
 mod answers;
 mod arrays;
@@ -50,7 +52,7 @@ pub extern "C" fn tray_byte_image(
     numbers: &mut [usize],
     answers: &mut [usize],
 )
-    ensures { ImageRun byte_image byte_meaning byte_algebra 4200 (sizes_in_order data_rows parity_rows block_length card_length) image.old script.now numbers.old answers.old numbers.new answers.new }
+    ensures { ImageRun 1 1 byte_image byte_meaning byte_algebra 4200 (sizes_in_order data_rows parity_rows block_length card_length) image.old script.now numbers.old answers.old numbers.new answers.new image.new }
 {
     let sizes = sizes_of(data_rows, parity_rows, block_length, card_length);
     let mut desk = Desk {
@@ -58,7 +60,7 @@ pub extern "C" fn tray_byte_image(
         answers,
         symbols: &mut [Byte(0); SYMBOLS],
     };
-    runs::over_image::<Byte>(image, sizes, script, &mut desk);
+    let _ = runs::over_image::<Byte>(image, sizes, script, &mut desk);
 }
 
 // Runs a script over an image of the counter field.
@@ -73,7 +75,7 @@ pub extern "C" fn tray_counter_image(
     numbers: &mut [usize],
     answers: &mut [usize],
 )
-    ensures { ImageRun counter_image counter_meaning counter_algebra 4200 (sizes_in_order data_rows parity_rows block_length card_length) image.old script.now numbers.old answers.old numbers.new answers.new }
+    ensures { ImageRun 2 3 counter_image counter_meaning counter_algebra 4200 (sizes_in_order data_rows parity_rows block_length card_length) image.old script.now numbers.old answers.old numbers.new answers.new image.new }
 {
     let sizes = sizes_of(data_rows, parity_rows, block_length, card_length);
     let mut desk = Desk {
@@ -81,7 +83,7 @@ pub extern "C" fn tray_counter_image(
         answers,
         symbols: &mut [Counter::Low(0); SYMBOLS],
     };
-    runs::over_image::<Counter>(image, sizes, script, &mut desk);
+    let _ = runs::over_image::<Counter>(image, sizes, script, &mut desk);
 }
 
 // Runs a script over lent symbols and marks with an image's contents, and puts the symbols back into the image. Steps that damage do nothing.
@@ -96,7 +98,7 @@ pub extern "C" fn tray_byte_array(
     numbers: &mut [usize],
     answers: &mut [usize],
 )
-    ensures { MemoryRun byte_image byte_meaning byte_algebra SYMBOLS CAPACITY (sizes_in_order data_rows parity_rows block_length card_length) image.old script.now numbers.old answers.old numbers.new answers.new image.new }
+    ensures { MemoryRun 1 1 byte_image byte_meaning byte_algebra SYMBOLS CAPACITY (sizes_in_order data_rows parity_rows block_length card_length) image.old script.now numbers.old answers.old numbers.new answers.new image.new }
 {
     let sizes = sizes_of(data_rows, parity_rows, block_length, card_length);
     let mut desk = Desk {
@@ -151,7 +153,7 @@ pub extern "C" fn tray_counter_array(
     numbers: &mut [usize],
     answers: &mut [usize],
 )
-    ensures { MemoryRun counter_image counter_meaning counter_algebra SYMBOLS CAPACITY (sizes_in_order data_rows parity_rows block_length card_length) image.old script.now numbers.old answers.old numbers.new answers.new image.new }
+    ensures { MemoryRun 2 3 counter_image counter_meaning counter_algebra SYMBOLS CAPACITY (sizes_in_order data_rows parity_rows block_length card_length) image.old script.now numbers.old answers.old numbers.new answers.new image.new }
 {
     let sizes = sizes_of(data_rows, parity_rows, block_length, card_length);
     let mut desk = Desk {
@@ -206,10 +208,12 @@ pub extern "C" fn tray_byte_puts(
     start: usize,
     numbers: &[usize],
     puts: &mut [usize],
-) -> usize {
+) -> usize
+    ensures { PutsOf 1 1 byte_image byte_meaning byte_algebra (sizes_in_order data_rows parity_rows block_length card_length) row start (elements byte_algebra numbers.now 0 (min (length numbers.now) 4200)) image.old puts.old result image.new puts.new }
+{
     let sizes = sizes_of(data_rows, parity_rows, block_length, card_length);
     let mut buffer = [Byte(0); SYMBOLS];
-    runs::puts(image, sizes, row, start, numbers, &mut buffer, puts)
+    runs::puts::<Byte>(image, sizes, row, start, numbers, &mut buffer, puts)
 }
 
 // Takes an image in, writes symbols, and writes down every put of both. It answers how many puts there were.
@@ -224,8 +228,10 @@ pub extern "C" fn tray_counter_puts(
     start: usize,
     numbers: &[usize],
     puts: &mut [usize],
-) -> usize {
+) -> usize
+    ensures { PutsOf 2 3 counter_image counter_meaning counter_algebra (sizes_in_order data_rows parity_rows block_length card_length) row start (elements counter_algebra numbers.now 0 (min (length numbers.now) 4200)) image.old puts.old result image.new puts.new }
+{
     let sizes = sizes_of(data_rows, parity_rows, block_length, card_length);
     let mut buffer = [Counter::Low(0); SYMBOLS];
-    runs::puts(image, sizes, row, start, numbers, &mut buffer, puts)
+    runs::puts::<Counter>(image, sizes, row, start, numbers, &mut buffer, puts)
 }

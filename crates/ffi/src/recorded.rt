@@ -1,6 +1,6 @@
-// A shelf over another one that writes down each put, to see the order in which a write puts.
+// A shelf over another one that writes down each put, to see the order in which an intake and a write put.
 ghost use Rattle.std.specs.Prelude.{◌≡◌};
-ghost use Rattle.shelves.specs.Contents.{put_answer, after_put};
+ghost use Rattle.ffi.specs.Recorded.{Lent, Recording};
 
 use crate::answers::write_down;
 use algebra::Field;
@@ -16,7 +16,9 @@ pub struct Recorded<'a, S> {
 }
 
 impl<'a, S> Recorded<'a, S> {
-    pub(crate) fn over(inner: S, puts: &'a mut [usize]) -> Recorded<'a, S> {
+    pub(crate) fn over(inner: S, puts: &'a mut [usize]) -> Recorded<'a, S>
+        ensures { Lent inner puts.entry result }
+    {
         Recorded {
             inner,
             puts,
@@ -24,8 +26,13 @@ impl<'a, S> Recorded<'a, S> {
         }
     }
 
-    pub(crate) fn count(&self) -> usize {
-        self.count
+    // Gives back what it was given, as the puts left it, and how many they were.
+    pub(crate) fn into_parts(self) -> (S, &'a mut [usize], usize)
+        ensures inner { result.0 ≡ self.entry.inner }
+        ensures puts { result.1 ≡ self.entry.puts }
+        ensures count { result.2 ≡ self.entry.count }
+    {
+        (self.inner, self.puts, self.count)
     }
 }
 
@@ -36,6 +43,8 @@ where
     type Symbol = S::Symbol;
 
     ghost contents = { λ s. S.Shelf.contents s.inner };
+
+    ghost stores = { Recording S.Shelf.stores S.Shelf.contents (λ symbol. S.Symbol.Field.algebra.number (S.Symbol.Field.meaning symbol)) };
 
     fn rows(&self) -> usize {
         self.inner.rows()
@@ -50,9 +59,9 @@ where
     }
 
     fn put(&mut self, row: usize, place: usize, symbol: S::Symbol) -> Result<(), Outside> {
-        if let Some(room) = self.puts.get_mut(self.count.saturating_mul(3)..) {
-            write_down(room, &[row, place, symbol.number()]);
-        }
+        // By a range cut to the room: of a slice that `get_mut` was asked of, no proof knows what it ends as.
+        let at = self.count.saturating_mul(3).min(self.puts.len());
+        write_down(&mut self.puts[at..], &[row, place, symbol.number()]);
         self.count = self.count.saturating_add(1);
         self.inner.put(row, place, symbol)
     }

@@ -1,13 +1,16 @@
 // Scripts over trays of either field. The local buffers are the callers', since an array of a type parameter is refused.
 // An image and its tray's sizes stand side by side: with both in a struct, the functions that copy the image into lent memory got no proof (their borrows are
 // not covered).
-ghost use Rattle.std.specs.Prelude.{◌≡◌, ℕ, ◌+◌, ◌≤◌, length, min};
+ghost use Rattle.std.specs.Prelude.{◌≡◌, ℕ, ◌+◌, ◌≤◌, length, map, min};
+ghost use Rattle.image_shelves.specs.Fields.{BytesPut};
 ghost use Rattle.image_shelves.specs.Layout.{image_contents};
 ghost use Rattle.shelves.specs.Array.{array_contents};
 ghost use Rattle.ffi.specs.Copies.{MemoryRun, copied, lent_contents};
 ghost use Rattle.ffi.specs.Images.{ImageRun, Struck};
 ghost use Rattle.ffi.specs.Parity.{parity_written};
+ghost use Rattle.ffi.specs.Puts.{PutsOf};
 ghost use Rattle.ffi.specs.Runs.{SameDesk};
+ghost use Rattle.ffi.specs.Script.{elements};
 
 use crate::arrays::{copy, parity};
 use crate::recorded::Recorded;
@@ -37,17 +40,20 @@ fn damage<'a, F: OwnSymbols>(tray: &mut Tray<ImageShelf<'a, F>>, step: Step)
     let _ = tray.replace_shelf(ImageShelf::over(bytes));
 }
 
-pub(crate) fn over_image<F: OwnSymbols>(
-    image: &mut [u8],
+// Runs a script over an image, and gives its bytes back: no proof knows what a slice ends as that lies in a struct in a struct.
+pub(crate) fn over_image<'a, F: OwnSymbols>(
+    image: &'a mut [u8],
     sizes: Sizes,
     script: &[usize],
     desk: &mut Desk<'_, F>,
-)
-    ensures run { ImageRun (image_contents F.CodedField.kind F.CodedField.width F.Field.algebra.size F.Field.symbol) F.Field.meaning F.Field.algebra (length desk.old.symbols.now) sizes image.old script.now desk.old.numbers.now desk.old.answers.now desk.new.numbers.now desk.new.answers.now }
+) -> &'a mut [u8]
+    ensures run { ImageRun F.CodedField.kind F.CodedField.width (image_contents F.CodedField.kind F.CodedField.width F.Field.algebra.size F.Field.symbol) F.Field.meaning F.Field.algebra (length desk.old.symbols.now) sizes image.entry.now script.now desk.old.numbers.now desk.old.answers.now desk.new.numbers.now desk.new.answers.now result.now }
+    ensures same_image { result.ghost_name ≡ image.entry.ghost_name }
     ensures same { SameDesk desk.old desk.new }
 {
     let mut tray = Tray::over(ImageShelf::<F>::over(image), sizes);
     desk.run(script, &mut tray, damage);
+    tray.into_shelf().into_bytes()
 }
 
 // A shelf over lent memory with an image's contents.
@@ -83,9 +89,10 @@ where
     ensures { _tray.new ≡ _tray.old }
 {}
 
-// Puts the symbols of a shelf into an image. By its bytes: of a shelf over them that `copy` has put to, no proof knows that it is still over the same ones.
+// Puts the symbols of a shelf into an image. By its bytes: `copy`, which knows a shelf only by its trait, does not say that one over them is still over the same.
 fn put_back<F: OwnSymbols, S: Shelf<Symbol = F>>(from: &S, image: &mut [u8])
-    ensures { image_contents F.CodedField.kind F.CodedField.width F.Field.algebra.size F.Field.symbol image.new ≡ copied (S.Shelf.contents from.now) (image_contents F.CodedField.kind F.CodedField.width F.Field.algebra.size F.Field.symbol image.old) }
+    ensures contents { image_contents F.CodedField.kind F.CodedField.width F.Field.algebra.size F.Field.symbol image.new ≡ copied (S.Shelf.contents from.now) (image_contents F.CodedField.kind F.CodedField.width F.Field.algebra.size F.Field.symbol image.old) }
+    ensures puts { BytesPut F.CodedField.kind F.CodedField.width F.Field.algebra.size image.old image.new }
 {
     let places = from.places();
     for row in 0..from.rows() {
@@ -107,7 +114,7 @@ pub(crate) fn over_memory<F: OwnSymbols>(
     script: &[usize],
     desk: &mut Desk<'_, F>,
 )
-    ensures run { (capacity : ℕ) → min (length memory.entry.symbols.now) (length memory.entry.marks.now) ≡ capacity → MemoryRun (image_contents F.CodedField.kind F.CodedField.width F.Field.algebra.size F.Field.symbol) F.Field.meaning F.Field.algebra (length desk.old.symbols.now) capacity sizes image.old script.now desk.old.numbers.now desk.old.answers.now desk.new.numbers.now desk.new.answers.now image.new }
+    ensures run { (capacity : ℕ) → min (length memory.entry.symbols.now) (length memory.entry.marks.now) ≡ capacity → MemoryRun F.CodedField.kind F.CodedField.width (image_contents F.CodedField.kind F.CodedField.width F.Field.algebra.size F.Field.symbol) F.Field.meaning F.Field.algebra (length desk.old.symbols.now) capacity sizes image.old script.now desk.old.numbers.now desk.old.answers.now desk.new.numbers.now desk.new.answers.now image.new }
     ensures same { SameDesk desk.old desk.new }
 {
     let mut tray = Tray::over(in_memory(image, memory), sizes);
@@ -141,7 +148,28 @@ pub(crate) fn parity_over_memory<F: OwnSymbols>(
     parity(&lent(&image, memory), sizes, times, numbers);
 }
 
-// Takes an image in and writes symbols of these numbers, over a shelf that writes down each put. It answers how many puts there were.
+// Takes an image in and writes symbols, over a shelf that writes down each put. It gives image and room back, and how many puts there were.
+// Both are given back, as `over_image` does.
+fn record_puts<'a, 'b, F: OwnSymbols>(
+    image: &'a mut [u8],
+    puts: &'b mut [usize],
+    sizes: Sizes,
+    row: usize,
+    start: usize,
+    symbols: &[F],
+) -> (&'a mut [u8], &'b mut [usize], usize)
+    ensures puts { PutsOf F.CodedField.kind F.CodedField.width (image_contents F.CodedField.kind F.CodedField.width F.Field.algebra.size F.Field.symbol) F.Field.meaning F.Field.algebra sizes row start (map F.Field.meaning symbols.now) image.entry.now puts.entry.now result.2 result.0.now result.1.now }
+    ensures same_image { result.0.ghost_name ≡ image.entry.ghost_name }
+    ensures same_room { result.1.ghost_name ≡ puts.entry.ghost_name }
+{
+    let mut tray = Tray::over(Recorded::over(ImageShelf::<F>::over(image), puts), sizes);
+    let _ = tray.intake();
+    let _ = tray.write(row, start, symbols);
+    let (shelf, puts, count) = tray.into_shelf().into_parts();
+    (shelf.into_bytes(), puts, count)
+}
+
+// The same with the symbols of numbers. It answers how many puts there were.
 pub(crate) fn puts<F: OwnSymbols>(
     image: &mut [u8],
     sizes: Sizes,
@@ -150,12 +178,12 @@ pub(crate) fn puts<F: OwnSymbols>(
     numbers: &[usize],
     buffer: &mut [F],
     puts: &mut [usize],
-) -> usize {
+) -> usize
+    ensures { PutsOf F.CodedField.kind F.CodedField.width (image_contents F.CodedField.kind F.CodedField.width F.Field.algebra.size F.Field.symbol) F.Field.meaning F.Field.algebra sizes row start (elements F.Field.algebra numbers.now 0 (min (length numbers.now) (length buffer.old))) image.old puts.old result image.new puts.new }
+{
     let count = numbers.len().min(buffer.len());
     let symbols = &mut buffer[..count];
     load(numbers, symbols);
-    let mut tray = Tray::over(Recorded::over(ImageShelf::<F>::over(image), puts), sizes);
-    let _ = tray.intake();
-    let _ = tray.write(row, start, symbols);
-    tray.into_shelf().count()
+    let (_, _, count) = record_puts(image, puts, sizes, row, start, symbols);
+    count
 }

@@ -2,6 +2,7 @@
 ghost use Rattle.std.specs.Prelude.{◌≡◌, ℕ, ◌-◌, ◌*◌, ◌/◌, ◌^◌, length, map, min};
 ghost use Rattle.rules.specs.Calls.{buffer_after};
 ghost use Rattle.rules.specs.Promises.{Promise};
+ghost use Rattle.shelves.specs.Puts.{ByPuts};
 ghost use Rattle.tray.specs.State.{state};
 ghost use Rattle.ffi.specs.Answers.{result_numbers, written_at, written_over};
 ghost use Rattle.ffi.specs.Script.{deed_of, step_of, elements, call_of, told, Called};
@@ -106,6 +107,7 @@ fn unload<F: Field>(symbols: &[F], numbers: &mut [usize])
     }
 }
 
+#[tactic(auto, using(shelves::proofs::Puts::no_puts, crate::proofs::Running::unchanged))]
 fn make<S: Shelf>(
     tray: &mut Tray<S>,
     call: Call,
@@ -115,6 +117,7 @@ fn make<S: Shelf>(
 where
     S::Symbol: Field,
     ensures promise { Promise S.Symbol.Field.algebra (state S.Shelf.contents S.Symbol.Field.meaning tray.old) (call_of call step (map S.Symbol.Field.meaning symbols.old)) (told call (map S.Symbol.Field.meaning symbols.new) result) (state S.Shelf.contents S.Symbol.Field.meaning tray.new) }
+    ensures puts { ByPuts S.Shelf.stores tray.old.shelf tray.new.shelf }
     ensures symbols { map S.Symbol.Field.meaning symbols.new ≡ buffer_after (map S.Symbol.Field.meaning symbols.old) (told call (map S.Symbol.Field.meaning symbols.new) result) }
 {
     match call {
@@ -149,7 +152,8 @@ fn make_call<S: Shelf>(
 ) -> Result<Given, Refusal>
 where
     S::Symbol: Field,
-    ensures { Called S.Symbol.Field.algebra (state S.Shelf.contents S.Symbol.Field.meaning tray.old) call step 0 (min step.count (length buffer.old)) numbers.old (result_numbers result) numbers.new (state S.Shelf.contents S.Symbol.Field.meaning tray.new) }
+    ensures called { Called S.Symbol.Field.algebra (state S.Shelf.contents S.Symbol.Field.meaning tray.old) call step 0 (min step.count (length buffer.old)) numbers.old (result_numbers result) numbers.new (state S.Shelf.contents S.Symbol.Field.meaning tray.new) }
+    ensures puts { ByPuts S.Shelf.stores tray.old.shelf tray.new.shelf }
 {
     let count = step.count.min(buffer.len());
     let symbols = &mut buffer[..count];
@@ -178,7 +182,7 @@ impl<'a, F: Field> Desk<'a, F> {
         step: Step,
         from: usize,
     ) -> Result<Given, Refusal>
-        ensures result { (start : ℕ) → from ≡ min start (2 ^ 64 - 1) → Resulting S.Shelf.contents F.Field.meaning F.Field.algebra (length self.old.symbols.now) step start call result tray.old self.old.numbers.now tray.new self.new.numbers.now }
+        ensures result { (start : ℕ) → from ≡ min start (2 ^ 64 - 1) → Resulting S.Shelf.contents S.Shelf.stores F.Field.meaning F.Field.algebra (length self.old.symbols.now) step start call result tray.old self.old.numbers.now tray.new self.new.numbers.now }
         ensures answers { self.new.answers.now ≡ self.old.answers.now }
         ensures room { length self.new.symbols.now ≡ length self.old.symbols.now }
         ensures same { SameDesk self.old self.new }
@@ -208,7 +212,7 @@ impl<'a, F: Field> Desk<'a, F> {
         from: usize,
     )
         requires { D.IsAlwaysCallable damage.now }
-        ensures taken { (start : ℕ) → from ≡ min start (2 ^ 64 - 1) → Taken S.Shelf.contents F.Field.meaning F.Field.algebra (ByClosure D.Fn damage.now) (length self.old.symbols.now) step start (5 * index) tray.old self.old.numbers.now self.old.answers.now tray.new self.new.numbers.now self.new.answers.now }
+        ensures taken { (start : ℕ) → from ≡ min start (2 ^ 64 - 1) → Taken S.Shelf.contents S.Shelf.stores F.Field.meaning F.Field.algebra (ByClosure D.Fn damage.now) (length self.old.symbols.now) step start (5 * index) tray.old self.old.numbers.now self.old.answers.now tray.new self.new.numbers.now self.new.answers.now }
         ensures room { length self.new.symbols.now ≡ length self.old.symbols.now }
         ensures same { SameDesk self.old self.new }
     {
@@ -230,7 +234,7 @@ impl<'a, F: Field> Desk<'a, F> {
         damage: D,
     )
         requires { D.IsAlwaysCallable damage }
-        ensures runs { Runs S.Shelf.contents F.Field.meaning F.Field.algebra (ByClosure D.Fn damage) (length self.old.symbols.now) script.now tray.old self.old.numbers.now self.old.answers.now (length script.now / 4) tray.new self.new.numbers.now self.new.answers.now }
+        ensures runs { Runs S.Shelf.contents S.Shelf.stores F.Field.meaning F.Field.algebra (ByClosure D.Fn damage) (length self.old.symbols.now) script.now tray.old self.old.numbers.now self.old.answers.now (length script.now / 4) tray.new self.new.numbers.now self.new.answers.now }
         ensures same { SameDesk self.old self.new }
     {
         // Where a step's numbers begin is carried along, as each takes its own share; and a step is made where there is no room for its answer, too.

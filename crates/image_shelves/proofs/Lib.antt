@@ -1,2 +1,3 @@
 mod Regions
 mod Images
+pub mod Puts

@@ -1,7 +1,7 @@
 // A shelf over an image, of any coded field with one symbol for each element.
 ghost use Rattle.std.specs.Prelude.{◌≡◌};
 ghost use Rattle.shelves.specs.Contents.{put_answer, after_put};
-ghost use Rattle.image_shelves.specs.Fields.{Lent, Stored};
+ghost use Rattle.image_shelves.specs.Fields.{Lent, Stored, image_stores};
 ghost use Rattle.image_shelves.specs.Layout.{image_contents};
 
 use crate::{image_get, image_places, image_put, image_rows};
@@ -45,6 +45,8 @@ impl<'a, F: OwnSymbols> Shelf for ImageShelf<'a, F> {
     type Symbol = F;
 
     ghost contents = { λ s. image_contents F.CodedField.kind F.CodedField.width F.Field.algebra.size F.Field.symbol s.bytes.now };
+
+    ghost stores = { image_stores F.CodedField.kind F.CodedField.width (λ symbol. F.Field.algebra.number (F.Field.meaning symbol)) };
 
     fn rows(&self) -> usize {
         image_rows::<F>(self.bytes)

@@ -7,3 +7,4 @@ mod Weighing
 mod Gathering
 pub mod Stating
 mod Putting
+pub mod Ordering

@@ -11,6 +11,8 @@ ghost use Rattle.rules.specs.Search.{counted, lowest, lowest_pair};
 ghost use Rattle.rules.specs.States.{fits, with_cells};
 ghost use Rattle.rules.specs.Updates.{Worked, worked_misfit, mended_cells};
 ghost use Rattle.rules.specs.Views.{element_at, seen, seen_contents};
+ghost use Rattle.shelves.specs.Puts.{PutsAt, places_of};
+ghost use Rattle.rules.specs.Order.{whole_places, mended_places};
 ghost use Rattle.mending.specs.Plans.{flag, Gathered, Ready};
 ghost use Rattle.mending.specs.Puts.{weighted_sum, block_cells, row_cells};
 ghost use Rattle.mending.specs.Stored.{stored as stored_at};
@@ -128,6 +130,7 @@ impl WorkedRow {
         ensures same { SameGroup group.old group.new }
         ensures block { let F = S.Symbol.Field.algebra in let meaning = S.Symbol.Field.meaning in let sizes = group.old.sizes in let before = S.Shelf.contents group.old.shelf.now in
             self.now.row < sizes.data_rows + sizes.parity_rows → Holds F meaning sizes before (block_cells F meaning sizes (stored_at F self.now.weights) self.now.row before sizes.block_length) (S.Shelf.contents group.new.shelf.now) }
+        ensures puts { PutsAt S.Shelf.stores group.old.shelf.now (places_of self.now.row 0 group.old.sizes.block_length) group.new.shelf.now }
     {
         for place in 0..group.sizes.block_length {
             let symbol = self.symbol(&group.read(), place);
@@ -142,6 +145,7 @@ impl WorkedRow {
         ensures same { SameGroup group.old group.new }
         ensures cells { let F = S.Symbol.Field.algebra in let meaning = S.Symbol.Field.meaning in let sizes = group.old.sizes in let before = S.Shelf.contents group.old.shelf.now in
             self.now.row < sizes.data_rows + sizes.parity_rows → Holds F meaning sizes before (row_cells F meaning sizes (stored_at F self.now.weights) self.now.row before) (S.Shelf.contents group.new.shelf.now) }
+        ensures puts { let sizes = group.old.sizes in sizes.block_length + sizes.card_length < 2 ^ 64 → PutsAt S.Shelf.stores group.old.shelf.now (whole_places sizes self.now.row) group.new.shelf.now }
     {
         self.put_block(group);
         group.put_card(self.row);
@@ -180,6 +184,8 @@ where
     ensures same { SameGroup group.old group.new }
     ensures mended { let F = S.Symbol.Field.algebra in let meaning = S.Symbol.Field.meaning in let s = seen meaning group.old.sizes (S.Shelf.contents group.old.shelf.now) in
         Ready F s plan.now → (blocks : ℕ → ℕ → Below S.Symbol.Field.size) → Worked F s blocks → seen_contents meaning (S.Shelf.contents group.new.shelf.now) ≡ (with_cells s (mended_cells F s blocks)).contents }
+    ensures puts { let F = S.Symbol.Field.algebra in let s = seen S.Symbol.Field.meaning group.old.sizes (S.Shelf.contents group.old.shelf.now) in
+        Ready F s plan.now → PutsAt S.Shelf.stores group.old.shelf.now (mended_places F s (group.old.sizes.data_rows + group.old.sizes.parity_rows)) group.new.shelf.now }
 {
     for row in 0..group.sizes.rows() {
         if !plan.is_sound(row) {

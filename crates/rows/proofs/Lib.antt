@@ -1,5 +1,5 @@
 mod Horner
-mod Combining
+pub mod Combining
 pub mod Carding
 mod Spans
 pub mod Making

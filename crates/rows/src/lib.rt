@@ -7,10 +7,12 @@ ghost use Rattle.std.specs.Option.{option_map};
 ghost use Rattle.algebra.specs.Theorems.{coefficient as coefficient_of};
 ghost use Rattle.rules.specs.Codes.{component, combination as combination_of, differ};
 ghost use Rattle.rules.specs.Search.{lowest, lowest_pair};
-ghost use Rattle.rules.specs.States.{audited, fits, misfit, sound};
+ghost use Rattle.rules.specs.States.{audited, misfit, sound};
 ghost use Rattle.rules.specs.Updates.{span};
 ghost use Rattle.rules.specs.Views.{element_at, seen};
 ghost use Rattle.shelves.specs.Contents.{is_hole};
+ghost use Rattle.rules.specs.Order.{card_places};
+ghost use Rattle.shelves.specs.Puts.{PutsAt, places_of};
 ghost use Rattle.rows.specs.Cards.{CardPut, CardsPut};
 ghost use Rattle.rows.specs.Shown.{shown, SameGroup};
 ghost use Rattle.rows.specs.Weights.{Coefficients, element_of};
@@ -57,10 +59,10 @@ pub fn numbers_of<F: Field, E: Fn(usize) -> F, const N: usize>(
     )
 }
 
-// The coefficient of parity row i and data row j, where the field has their elements. That i is below 4, and other limits of the rows, are premises here and
-// above: calls look at no other rows, and a type for them would ask more of callers.
+// The coefficient of parity row i and data row j, where the field has their elements. That it has them, and above that no sum of sizes overflows, are premises
+// of the clauses: calls look at no other rows, and a type for them would ask more of callers.
 pub fn coefficient<F: Field>(i: usize, j: usize) -> F
-    ensures { i < 4 → j < 64 → 4 + j < F.Field.algebra.size → F.Field.meaning result ≡ coefficient_of F.Field.algebra i j }
+    ensures { i < F.Field.algebra.size → 4 + j < F.Field.algebra.size → 4 + j < 2 ^ 64 → F.Field.meaning result ≡ coefficient_of F.Field.algebra i j }
 {
     let column: F = element(j.saturating_add(4));
     let row: F = element(i);
@@ -73,7 +75,8 @@ pub fn coefficient<F: Field>(i: usize, j: usize) -> F
 // The numbers of the coefficients of parity row i, one for each data row: worked out once for a call.
 // Numbers, since Rattle has no array of a type parameter here, and always 64, with the count beside them, since nothing below the programs has a heap.
 pub fn coefficient_row<F: Field>(i: usize, data_rows: usize) -> [usize; 64]
-    ensures { i < 4 → data_rows ≤ 64 → data_rows + 4 ≤ F.Field.algebra.size → Coefficients F.Field.algebra i data_rows result }
+    ensures known { i < F.Field.algebra.size → data_rows ≤ 64 → data_rows + 4 ≤ F.Field.algebra.size → Coefficients F.Field.algebra i data_rows result }
+    ensures zeros { (j : ℕ) → data_rows ≤ j → j < 64 → slice_index result j ≡ 0 }
 {
     numbers_of(data_rows, |j| coefficient::<F>(i, j))
 }
@@ -88,7 +91,7 @@ pub fn combination<S: Shelf>(
 ) -> S::Symbol
 where
     S::Symbol: Field,
-    ensures { (i : ℕ) → data_rows ≤ 64 → Coefficients S.Symbol.Field.algebra i data_rows coefficients.now → S.Symbol.Field.meaning result ≡ combination_of S.Symbol.Field.algebra data_rows (λ j. element_at S.Symbol.Field.algebra S.Symbol.Field.meaning (S.Shelf.contents shelf.now) j place) i }
+    ensures { (i : ℕ) → Coefficients S.Symbol.Field.algebra i (min data_rows 64) coefficients.now → S.Symbol.Field.meaning result ≡ combination_of S.Symbol.Field.algebra (min data_rows 64) (λ j. element_at S.Symbol.Field.algebra S.Symbol.Field.meaning (S.Shelf.contents shelf.now) j place) i }
 {
     let mut sum: S::Symbol = <S::Symbol>::zero();
     for (j, number) in coefficients[..data_rows.min(64)].iter().enumerate() {
@@ -120,7 +123,8 @@ where
 
 // The rows of a tray, to be read: a shelf on loan, and the tray's sizes.
 // A stretch of places goes in by its start and its length, since what is found in it is counted from its start: a range would be taken apart for both.
-// That the sizes keep their limits is a premise of the clauses: a type that kept them would ask more of callers than the calls do.
+// That no sum of the sizes overflows, and for parity that the field and a table of 64 have the rows, are premises of the clauses: a type that kept such sizes
+// would ask more of callers than the calls do.
 #[derive(Drop)]
 pub struct Group<'a, S> {
     pub shelf: &'a S,
@@ -164,7 +168,7 @@ where
     // its index i, not by its row k + i, and the place is counted from the start of the stretch.
     // By the project's rules two loops, left by a label.
     pub fn first_misfit(&self, start: usize, places: usize) -> Option<(usize, usize)>
-        ensures { start + places < 2 ^ 64 → self.now.sizes.parity_rows ≤ 4 → self.now.sizes.data_rows ≤ 64 → self.now.sizes.data_rows + 4 ≤ S.Symbol.Field.algebra.size → result ≡ lowest_pair self.now.sizes.parity_rows places (λ i t. misfit S.Symbol.Field.algebra (shown S.Shelf.contents S.Symbol.Field.meaning self.now) i (start + t)) }
+        ensures { start + places < 2 ^ 64 → self.now.sizes.data_rows + self.now.sizes.parity_rows < 2 ^ 64 → self.now.sizes.parity_rows ≤ S.Symbol.Field.algebra.size → self.now.sizes.data_rows ≤ 64 → self.now.sizes.data_rows + 4 ≤ S.Symbol.Field.algebra.size → result ≡ lowest_pair self.now.sizes.parity_rows places (λ i t. misfit S.Symbol.Field.algebra (shown S.Shelf.contents S.Symbol.Field.meaning self.now) i (start + t)) }
     {
         let mut found = None;
         'rows: for i in 0..self.sizes.parity_rows {
@@ -198,7 +202,7 @@ where
 
     // The verdict of one row: a hole, failing that a card that is not fresh, otherwise sound.
     pub fn audit(&self, row: usize) -> Verdict
-        ensures { fits S.Symbol.Field.algebra (shown S.Shelf.contents S.Symbol.Field.meaning self.now) ≡ true → result ≡ audited S.Symbol.Field.algebra (shown S.Shelf.contents S.Symbol.Field.meaning self.now) row }
+        ensures { self.now.sizes.block_length + self.now.sizes.card_length < 2 ^ 64 → result ≡ audited S.Symbol.Field.algebra (shown S.Shelf.contents S.Symbol.Field.meaning self.now) row }
     {
         if let Some(place) = self.lowest_hole(row, 0, self.sizes.places()) {
             return Verdict::Hole(place);
@@ -211,7 +215,7 @@ where
 
     // The lowest parity row that is not sound, by its index, with its verdict.
     pub fn first_unsound_parity(&self) -> Option<(usize, Verdict)>
-        ensures { fits S.Symbol.Field.algebra (shown S.Shelf.contents S.Symbol.Field.meaning self.now) ≡ true → result ≡ option_map (λ i. (i, audited S.Symbol.Field.algebra (shown S.Shelf.contents S.Symbol.Field.meaning self.now) (self.now.sizes.data_rows + i))) (lowest self.now.sizes.parity_rows (λ i. not (sound S.Symbol.Field.algebra (shown S.Shelf.contents S.Symbol.Field.meaning self.now) (self.now.sizes.data_rows + i)))) }
+        ensures { self.now.sizes.data_rows + self.now.sizes.parity_rows < 2 ^ 64 → self.now.sizes.block_length + self.now.sizes.card_length < 2 ^ 64 → result ≡ option_map (λ i. (i, audited S.Symbol.Field.algebra (shown S.Shelf.contents S.Symbol.Field.meaning self.now) (self.now.sizes.data_rows + i))) (lowest self.now.sizes.parity_rows (λ i. not (sound S.Symbol.Field.algebra (shown S.Shelf.contents S.Symbol.Field.meaning self.now) (self.now.sizes.data_rows + i)))) }
     {
         (0..self.sizes.parity_rows).find_map(|i| {
             let verdict = self.audit(self.sizes.parity_row(i));
@@ -246,6 +250,7 @@ where
     pub fn put_card(&mut self, row: usize)
         ensures same { SameGroup self.old self.new }
         ensures cards { CardPut S.Symbol.Field.algebra S.Symbol.Field.meaning self.old.sizes row (S.Shelf.contents self.old.shelf.now) (S.Shelf.contents self.new.shelf.now) }
+        ensures puts { let sizes = self.old.sizes in sizes.block_length + sizes.card_length < 2 ^ 64 → PutsAt S.Shelf.stores self.old.shelf.now (places_of row sizes.block_length sizes.card_length) self.new.shelf.now }
     {
         for index in 0..self.sizes.card_length {
             let component = self.read().fresh_component(row, index);
@@ -257,6 +262,7 @@ where
     pub fn put_cards(&mut self)
         ensures same { SameGroup self.old self.new }
         ensures cards { CardsPut S.Symbol.Field.algebra S.Symbol.Field.meaning self.old.sizes (S.Shelf.contents self.old.shelf.now) (S.Shelf.contents self.new.shelf.now) }
+        ensures puts { let sizes = self.old.sizes in sizes.data_rows + sizes.parity_rows < 2 ^ 64 → sizes.block_length + sizes.card_length < 2 ^ 64 → PutsAt S.Shelf.stores self.old.shelf.now (card_places sizes (sizes.data_rows + sizes.parity_rows)) self.new.shelf.now }
     {
         for row in 0..self.sizes.rows() {
             self.put_card(row);

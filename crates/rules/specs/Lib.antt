@@ -14,3 +14,4 @@ pub mod Writes
 pub mod Rounds
 pub mod Parity
 pub mod Text
+pub mod Order

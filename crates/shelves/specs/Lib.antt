@@ -1,3 +1,4 @@
 pub mod Contents
 pub mod Memory
 pub mod Array
+pub mod Puts

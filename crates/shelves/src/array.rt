@@ -38,6 +38,8 @@ impl<'a, T: Copy> Shelf for ArrayShelf<'a, T> {
 
     ghost contents = { array_contents };
 
+    ghost stores = { Stored };
+
     fn rows(&self) -> usize {
         self.grid.held(self.symbols, self.marks).rows
     }

@@ -1,7 +1,7 @@
 // Shelves: block devices seen as rows of symbols, some of which cannot be read.
 #![tactic(auto)]
 
-ghost use Rattle.std.specs.Prelude.{◌≡◌};
+ghost use Rattle.std.specs.Prelude.{◌≡◌, ℕ};
 ghost use Rattle.shelves.specs.Contents.{Contents, symbol_of, get_answer, put_answer, after_put};
 
 mod array;
@@ -43,6 +43,9 @@ pub trait Shelf {
 
     ghost contents: { Self → Contents Self.Symbol };
 
+    // What a put does to the shelf besides: where it lies over lent memory, say, what that memory holds then. A shelf that says nothing here owes nothing.
+    ghost stores: { Self → ℕ → ℕ → Self.Symbol → Self → Type 0 } = { λ before row place x after. Unit {0} };
+
     fn rows(&self) -> usize
         ensures { result ≡ (contents self.now).rows };
 
@@ -54,7 +57,8 @@ pub trait Shelf {
 
     fn put(&mut self, row: usize, place: usize, symbol: Self::Symbol) -> Result<(), Outside>
         ensures answer { result ≡ put_answer (contents self.old) row place }
-        ensures after { contents self.new ≡ after_put (contents self.old) row place symbol };
+        ensures after { contents self.new ≡ after_put (contents self.old) row place symbol }
+        ensures stored { stores self.old row place symbol self.new };
 }
 
 #[cfg(test)]

@@ -11,6 +11,7 @@ use Rattle.algebra.specs.Algebra.{Field}
 use Rattle.algebra.proofs.Cases.{by_cases}
 use Rattle.shelves.specs.Contents.{Contents, is_hole, within}
 use Rattle.shelves.proofs.Contents.{hole_is, same_contents}
+use Rattle.writes.specs.Few.{Few}
 use Rattle.tray.specs.State.{on_contents, answer_of, ExchangedAs, stretch_hole, stretch_misfit, stretch_found, stretch_checked, span_checked}
 use Rattle.rules.specs.Calls.{Call, fit, intake, audit, read, write, cross, begin, step, totals, record_of, first, done, judged, copied, counts, entry_is, lowest_is, refused, wants_intake}
 use Rattle.rules.specs.Promises.{Promise, accepted, did_fit, did_intake, did_audit, did_read, did_write, did_cross, did_begin, did_step, did_totals, did_record, did_first}
@@ -187,6 +188,10 @@ module _ {A : Type 0} (F : Field A) (s : State A) where
   -- an allowed span ends in the block
   pub allowed_fits : (start count : ℕ) → allowed s start count ≡ true → start + count ≤ n s
   allowed_fits start count a = grind (arith, nat_tests)
+
+  -- the sizes of a tray that fits are no larger than a write asks
+  pub few_of : fits F s ≡ true → Few s.sizes
+  few_of sized = let f = fitting F s sized in record { data_rows = f.k_high; parity_rows = f.p_high; block = f.n_high; card = f.m_high }
 
   -- the number of rows, where no sum of the sizes overflows
   pub row_count : fits F s ≡ true → {v : ℕ} → v ≡ min (k s + p s) (2 ^ 64 - 1) → v ≡ k s + p s

@@ -1,7 +1,7 @@
 // A tray: a redundancy group over any shelf, and its calls.
 #![tactic(auto)]
 
-ghost use Rattle.std.specs.Prelude.{◌≡◌, ℕ, ◌+◌, ◌^◌, ◌<◌, ◌≤◌, true, length, map, Some, if◌then◌else◌, OnErr};
+ghost use Rattle.std.specs.Prelude.{◌≡◌, ℕ, ◌+◌, ◌^◌, ◌<◌, ◌≤◌, true, length, map, Some, if◌then◌else◌, OnOk, OnErr};
 ghost use Rattle.algebra.specs.Algebra.{Field as Algebra};
 ghost use Rattle.algebra.specs.Below.{Below};
 ghost use Rattle.rules.specs.Calls.{fit as fit_call, intake as intake_call, audit as audit_call, read as read_call, write as write_call, cross as cross_call};
@@ -10,6 +10,7 @@ ghost use Rattle.rules.specs.Calls.{judged, entry_is, lowest_is, mended, return_
 ghost use Rattle.rules.specs.Audits.{AuditExact, ChangesSeen, NoLongerSound};
 ghost use Rattle.rules.specs.Crosses.{CrossAccepts};
 ghost use Rattle.rules.specs.Exact.{IntakeExact, MendExact};
+ghost use Rattle.rules.specs.Order.{card_places, written_places, mended_places};
 ghost use Rattle.rules.specs.Promises.{Promise, Answered};
 ghost use Rattle.rules.specs.Rounds.{RoundExact};
 ghost use Rattle.rules.specs.States.{fits};
@@ -17,6 +18,7 @@ ghost use Rattle.rules.specs.Twins.{AuditFaithful, MendFaithful, Faithful};
 ghost use Rattle.rules.specs.Updates.{allowed};
 ghost use Rattle.rules.specs.Views.{seen, seen_contents};
 ghost use Rattle.rules.specs.Writes.{WriteExact};
+ghost use Rattle.shelves.specs.Puts.{ByPuts, PutsAt};
 ghost use Rattle.tray.specs.State.{state, on_contents, answer_of, answer_by, ExchangedAs, read_answer, counts_of, Ready, stretch_checked, span_checked};
 
 use algebra::Field;
@@ -119,10 +121,13 @@ where
     }
 
     // Takes the tray in: looks for holes in blocks and then for parity rows that do not fit, and puts every card.
-    #[tactic(auto, using(rules::proofs::Intake::intake_exact, crate::proofs::Answering::unfit_refused, crate::proofs::Answering::intake_again, crate::proofs::Answering::intake_refused))]
+    #[tactic(auto, using(rules::proofs::Intake::intake_exact, crate::proofs::Answering::unfit_refused, crate::proofs::Answering::intake_again, crate::proofs::Answering::intake_refused, shelves::proofs::Puts::no_puts))]
     pub fn intake(&mut self) -> Result<(), Refusal>
         ensures promise { Promise S.Symbol.Field.algebra (state S.Shelf.contents S.Symbol.Field.meaning self.old) intake_call (answer_of result) (state S.Shelf.contents S.Symbol.Field.meaning self.new) }
         ensures exact { IntakeExact S.Symbol.Field.algebra }
+        ensures order { let sizes = self.old.sizes in OnOk result (PutsAt S.Shelf.stores self.old.shelf (card_places sizes (sizes.data_rows + sizes.parity_rows)) self.new.shelf) }
+        ensures puts { ByPuts S.Shelf.stores self.old.shelf self.new.shelf }
+        ensures refused { OnErr result (self.new ≡ self.old) }
     {
         if !self.fits() {
             return Err(Refusal::DoesNotFit);
@@ -208,10 +213,13 @@ where
     }
 
     // Writes symbols into a data row's block, and moves the parity rows and all cards touched by the change.
-    #[tactic(auto, using(rules::proofs::Writes::write_exact, crate::proofs::Answering::write_no_row, crate::proofs::Answering::write_refused, crate::proofs::Answering::mapped_length))]
+    #[tactic(auto, using(rules::proofs::Writes::write_exact, crate::proofs::Answering::write_no_row, crate::proofs::Answering::write_refused, crate::proofs::Answering::mapped_length, shelves::proofs::Puts::no_puts))]
     pub fn write(&mut self, row: usize, start: usize, symbols: &[S::Symbol]) -> Result<(), Refusal>
         ensures promise { Promise S.Symbol.Field.algebra (state S.Shelf.contents S.Symbol.Field.meaning self.old) (write_call row start (map S.Symbol.Field.meaning symbols.now)) (answer_of result) (state S.Shelf.contents S.Symbol.Field.meaning self.new) }
         ensures exact { WriteExact S.Symbol.Field.algebra }
+        ensures order { OnOk result (PutsAt S.Shelf.stores self.old.shelf (written_places self.old.sizes row start (length symbols.now)) self.new.shelf) }
+        ensures puts { ByPuts S.Shelf.stores self.old.shelf self.new.shelf }
+        ensures refused { OnErr result (self.new ≡ self.old) }
     {
         self.ready()?;
         if row >= self.sizes.data_rows {
@@ -243,7 +251,8 @@ where
     // is its call's to say.
     #[tactic(auto, using(crate::proofs::Answering::begin_refused, crate::proofs::Answering::begin_accepted))]
     pub fn begin(&mut self) -> Result<(), Refusal>
-        ensures { Promise S.Symbol.Field.algebra (state S.Shelf.contents S.Symbol.Field.meaning self.old) begin_call (answer_of result) (state S.Shelf.contents S.Symbol.Field.meaning self.new) }
+        ensures promise { Promise S.Symbol.Field.algebra (state S.Shelf.contents S.Symbol.Field.meaning self.old) begin_call (answer_of result) (state S.Shelf.contents S.Symbol.Field.meaning self.new) }
+        ensures shelf { self.new.shelf ≡ self.old.shelf }
     {
         self.ready()?;
         let rows = self.sizes.rows();
@@ -255,7 +264,8 @@ where
     // Audits the row that the round walks at, enters the verdict, and goes on to the next row or to over.
     #[tactic(auto, using(crate::proofs::Answering::step_refused))]
     pub fn step(&mut self) -> Result<Verdict, Refusal>
-        ensures { Promise S.Symbol.Field.algebra (state S.Shelf.contents S.Symbol.Field.meaning self.old) step_call (answer_by judged result) (state S.Shelf.contents S.Symbol.Field.meaning self.new) }
+        ensures promise { Promise S.Symbol.Field.algebra (state S.Shelf.contents S.Symbol.Field.meaning self.old) step_call (answer_by judged result) (state S.Shelf.contents S.Symbol.Field.meaning self.new) }
+        ensures shelf { self.new.shelf ≡ self.old.shelf }
     {
         self.ready()?;
         let rows = self.sizes.rows();
@@ -270,6 +280,7 @@ where
     pub fn totals(&mut self) -> Result<(usize, usize), Refusal>
         ensures promise { Promise S.Symbol.Field.algebra (state S.Shelf.contents S.Symbol.Field.meaning self.old) totals_call (answer_by counts_of result) (state S.Shelf.contents S.Symbol.Field.meaning self.new) }
         ensures round { RoundExact S.Symbol.Field.algebra }
+        ensures shelf { self.new.shelf ≡ self.old.shelf }
     {
         self.ready()?;
         let rows = self.sizes.rows();
@@ -305,6 +316,9 @@ where
         ensures answered { (q : ℕ) (F : Algebra (Below q)) → Answered F }
         ensures law { (q : ℕ) (F : Algebra (Below q)) → Faithful F }
         ensures after_runs { MendFaithful S.Symbol.Field.algebra (state S.Shelf.contents S.Symbol.Field.meaning self.old) (state S.Shelf.contents S.Symbol.Field.meaning self.new) }
+        ensures order { let sizes = self.old.sizes in OnOk result (PutsAt S.Shelf.stores self.old.shelf (mended_places S.Symbol.Field.algebra (state S.Shelf.contents S.Symbol.Field.meaning self.old) (sizes.data_rows + sizes.parity_rows)) self.new.shelf) }
+        ensures puts { ByPuts S.Shelf.stores self.old.shelf self.new.shelf }
+        ensures refused { OnErr result (self.new ≡ self.old) }
     {
         self.ready()?;
         let damage = mending::gather(&self.group());

@@ -1,3 +1,4 @@
 mod Numbers
 mod Growing
 mod Spans
+pub mod Ordering

@@ -1,9 +1,12 @@
 // The puts of a write: each symbol moves its data row, the parity rows, and the cards of both by its change.
 #![tactic(auto)]
 
-ghost use Rattle.std.specs.Prelude.{◌≡◌, ℕ, ◌+◌, ◌^◌, ◌<◌, ◌≤◌, map};
+ghost use Rattle.std.specs.Prelude.{◌≡◌, ℕ, ◌+◌, ◌^◌, ◌<◌, ◌≤◌, map, length, [], ◌∷◌};
 ghost use Rattle.rows.specs.Shown.{SameGroup};
 ghost use Rattle.rules.specs.Views.{seen};
+ghost use Rattle.shelves.specs.Puts.{PutsAt, places_of};
+ghost use Rattle.rules.specs.Order.{row_places, symbol_places, written_places};
+ghost use Rattle.writes.specs.Few.{Few};
 ghost use Rattle.rules.specs.declared.Sizes.{Sizes as SizesOf};
 ghost use Rattle.writes.specs.Steps.{Puts, Readable, cells_of, place_grown, card_grown, row_grown, OneWritten, AllWritten};
 ghost use Rattle.writes.specs.Weights.{PowersAt, Bases, Column};
@@ -77,7 +80,8 @@ impl<F: Field> Place<F> {
 fn grow<S: Shelf>(shelf: &mut S, row: usize, place: usize, change: S::Symbol)
 where
     S::Symbol: Field,
-    ensures { (sizes : SizesOf) → Puts S.Symbol.Field.meaning (Readable S.Symbol.Field.algebra S.Symbol.Field.meaning sizes (S.Shelf.contents shelf.old) row × (place < sizes.block_length + sizes.card_length)) (place_grown S.Symbol.Field.algebra (seen S.Symbol.Field.meaning sizes (S.Shelf.contents shelf.old)) row place (S.Symbol.Field.meaning change) (cells_of S.Symbol.Field.meaning (S.Shelf.contents shelf.old))) (S.Shelf.contents shelf.old) (S.Shelf.contents shelf.new) }
+    ensures grown { (sizes : SizesOf) → Puts S.Symbol.Field.meaning (Readable S.Symbol.Field.algebra S.Symbol.Field.meaning sizes (S.Shelf.contents shelf.old) row × (place < sizes.block_length + sizes.card_length)) (place_grown S.Symbol.Field.algebra (seen S.Symbol.Field.meaning sizes (S.Shelf.contents shelf.old)) row place (S.Symbol.Field.meaning change) (cells_of S.Symbol.Field.meaning (S.Shelf.contents shelf.old))) (S.Shelf.contents shelf.old) (S.Shelf.contents shelf.new) }
+    ensures puts { PutsAt S.Shelf.stores shelf.old ((row, place) ∷ []) shelf.new }
 {
     let symbol = symbol_at(shelf, row, place).sum(change);
     let _ = shelf.put(row, place, symbol);
@@ -87,7 +91,8 @@ where
 fn grow_card<S: Shelf>(shelf: &mut S, row: usize, place: &Place<S::Symbol>, change: S::Symbol)
 where
     S::Symbol: Field,
-    ensures { let sizes = place.now.sizes in Puts S.Symbol.Field.meaning (Readable S.Symbol.Field.algebra S.Symbol.Field.meaning sizes (S.Shelf.contents shelf.old) row) (card_grown S.Symbol.Field.algebra (seen S.Symbol.Field.meaning sizes (S.Shelf.contents shelf.old)) row place.now.index (S.Symbol.Field.meaning change) sizes.card_length (cells_of S.Symbol.Field.meaning (S.Shelf.contents shelf.old))) (S.Shelf.contents shelf.old) (S.Shelf.contents shelf.new) }
+    ensures grown { let sizes = place.now.sizes in Puts S.Symbol.Field.meaning (Readable S.Symbol.Field.algebra S.Symbol.Field.meaning sizes (S.Shelf.contents shelf.old) row) (card_grown S.Symbol.Field.algebra (seen S.Symbol.Field.meaning sizes (S.Shelf.contents shelf.old)) row place.now.index (S.Symbol.Field.meaning change) sizes.card_length (cells_of S.Symbol.Field.meaning (S.Shelf.contents shelf.old))) (S.Shelf.contents shelf.old) (S.Shelf.contents shelf.new) }
+    ensures puts { let sizes = place.now.sizes in Few sizes → PutsAt S.Shelf.stores shelf.old (places_of row sizes.block_length sizes.card_length) shelf.new }
 {
     for (component, power) in place
         .powers
@@ -109,7 +114,8 @@ where
 fn grow_row<S: Shelf>(shelf: &mut S, row: usize, place: &Place<S::Symbol>, change: S::Symbol)
 where
     S::Symbol: Field,
-    ensures { let sizes = place.now.sizes in Puts S.Symbol.Field.meaning (Readable S.Symbol.Field.algebra S.Symbol.Field.meaning sizes (S.Shelf.contents shelf.old) row × (place.now.index < sizes.block_length)) (row_grown S.Symbol.Field.algebra (seen S.Symbol.Field.meaning sizes (S.Shelf.contents shelf.old)) row place.now.index (S.Symbol.Field.meaning change) (cells_of S.Symbol.Field.meaning (S.Shelf.contents shelf.old))) (S.Shelf.contents shelf.old) (S.Shelf.contents shelf.new) }
+    ensures grown { let sizes = place.now.sizes in Puts S.Symbol.Field.meaning (Readable S.Symbol.Field.algebra S.Symbol.Field.meaning sizes (S.Shelf.contents shelf.old) row × (place.now.index < sizes.block_length)) (row_grown S.Symbol.Field.algebra (seen S.Symbol.Field.meaning sizes (S.Shelf.contents shelf.old)) row place.now.index (S.Symbol.Field.meaning change) (cells_of S.Symbol.Field.meaning (S.Shelf.contents shelf.old))) (S.Shelf.contents shelf.old) (S.Shelf.contents shelf.new) }
+    ensures puts { let sizes = place.now.sizes in Few sizes → PutsAt S.Shelf.stores shelf.old (row_places sizes row place.now.index) shelf.new }
 {
     grow(shelf, row, place.index, change);
     grow_card(shelf, row, place, change);
@@ -126,7 +132,8 @@ fn write_symbol<S: Shelf>(
 )
 where
     S::Symbol: Field,
-    ensures { OneWritten S.Symbol.Field.algebra S.Symbol.Field.meaning place.now.sizes row place.now.index column.now (S.Symbol.Field.meaning symbol) (S.Shelf.contents shelf.old) (S.Shelf.contents shelf.new) }
+    ensures written { OneWritten S.Symbol.Field.algebra S.Symbol.Field.meaning place.now.sizes row place.now.index column.now (S.Symbol.Field.meaning symbol) (S.Shelf.contents shelf.old) (S.Shelf.contents shelf.new) }
+    ensures puts { let sizes = place.now.sizes in Few sizes → PutsAt S.Shelf.stores shelf.old (symbol_places sizes row place.now.index sizes.parity_rows) shelf.new }
 {
     let change = symbol.difference(symbol_at(shelf, row, place.index));
     grow_row(shelf, row, place, change);
@@ -148,6 +155,7 @@ where
     S::Symbol: Field,
     ensures same { SameGroup group.old group.new }
     ensures written { AllWritten S.Symbol.Field.algebra S.Symbol.Field.meaning group.old.sizes row start (map S.Symbol.Field.meaning symbols.now) (S.Shelf.contents group.old.shelf.now) (S.Shelf.contents group.new.shelf.now) }
+    ensures puts { let sizes = group.old.sizes in Few sizes → start + length symbols.now ≤ sizes.block_length → PutsAt S.Shelf.stores group.old.shelf.now (written_places sizes row start (length symbols.now)) group.new.shelf.now }
 {
     let column = coefficient_column::<S::Symbol>(row, group.sizes.parity_rows);
     let mut place = Place::<S::Symbol>::at(group.sizes, start);

@@ -19,20 +19,20 @@ loop-row-preserved g c =
           length_kept = ap length (w.rows-is ∙ v.rows-is) ∙ length-set c.loop-row.rows c.loop-row.count row ∙ inv.length_kept;
           within = omega (arith, w.count-is);
           listed = λ fit.
-              rw (w.rows-is, v.rows-is, w.count-is) (listed_unsound (sound F s) row c.loop-row.rows c.loop-row.count (inv.listed fit) (ap is_sound (sym (c.audit.ensures fit)) ∙ sym c.is_sound.ensures ∙ w.if-not-is_sound.true) (omega (arith, v.if-count-lt4.true, inv.length_kept)));
+              rw (w.rows-is, v.rows-is, w.count-is) (listed_unsound (sound F s) row c.loop-row.rows c.loop-row.count (inv.listed fit) (ap is_sound (sym (c.audit.ensures (let f = fitting F s fit in omega (arith, f.n_high, f.m_high)))) ∙ sym c.is_sound.ensures ∙ w.if-not-is_sound.true) (omega (arith, v.if-count-lt4.true, inv.length_kept)));
         }
         | else-count-lt4 v ↦ record {
           length_kept = ap length (w.rows-is ∙ v.rows-is) ∙ inv.length_kept;
           within = omega (arith, w.count-is);
           listed = λ fit.
-              rw (w.rows-is, v.rows-is, w.count-is) (listed_past (sound F s) row c.loop-row.rows c.loop-row.count (inv.listed fit) (ap is_sound (sym (c.audit.ensures fit)) ∙ sym c.is_sound.ensures ∙ w.if-not-is_sound.true) v.if-count-lt4.false);
+              rw (w.rows-is, v.rows-is, w.count-is) (listed_past (sound F s) row c.loop-row.rows c.loop-row.count (inv.listed fit) (ap is_sound (sym (c.audit.ensures (let f = fitting F s fit in omega (arith, f.n_high, f.m_high)))) ∙ sym c.is_sound.ensures ∙ w.if-not-is_sound.true) v.if-count-lt4.false);
         }
       ]
       | else-not-is_sound w ↦ record {
         length_kept = ap length w.rows-is ∙ inv.length_kept;
         within = omega (arith, w.count-is);
         listed = λ fit.
-            rw (w.rows-is, w.count-is) (listed_sound (sound F s) row c.loop-row.rows c.loop-row.count (inv.listed fit) (ap is_sound (sym (c.audit.ensures fit)) ∙ sym c.is_sound.ensures ∙ w.if-not-is_sound.false));
+            rw (w.rows-is, w.count-is) (listed_sound (sound F s) row c.loop-row.rows c.loop-row.count (inv.listed fit) (ap is_sound (sym (c.audit.ensures (let f = fitting F s fit in omega (arith, f.n_high, f.m_high)))) ∙ sym c.is_sound.ensures ∙ w.if-not-is_sound.false));
       }
     ]
 

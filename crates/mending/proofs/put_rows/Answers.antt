@@ -1,13 +1,19 @@
-use Rattle.std.proofs.Common.{◌≡◌, ℕ, ◌+◌, ◌<◌, sym, ◌∙◌, subst, arith}
+use Rattle.std.proofs.Common.{rules, ◌≡◌, ℕ, ◌+◌, ◌<◌, sym, ◌∙◌, subst, arith}
 use Rattle.rules.specs.Views.{seen}
 use Rattle.rules.proofs.Rows.{fitting}
 use Rattle.rows.specs.Cards.{Holds}
+use Rattle.shelves.specs.Puts.{PutsAt, unput}
+use Rattle.rules.specs.Order.{mended_places}
+use Rattle.mending.proofs.Ordering.{sound_passed, row_mended}
 use Rattle.mending.specs.Stored.{stored}
 use Rattle.mending.specs.Puts.{row_cells}
 use Rattle.mending.proofs.Stating.{flag_is, weights_here}
 use Rattle.mending.proofs.Putting.{sound_next, put_next, all_mended}
 use Rattle.mending.proofs.put_rows.Goals as goal
 use Rattle.mending.proofs.put_rows.Goals.{then-not-is_sound, else-not-is_sound}
+
+pub loop-row-init : goal.loop-row-init
+loop-row-init g c = record { same = search rules; held = search rules; puts = λ ready. unput }
 
 pub loop-row-preserved : goal.loop-row-preserved
 loop-row-preserved g c =
@@ -31,11 +37,17 @@ loop-row-preserved g c =
             (weights_here F s plan ready row weights v.worked_row.ensures.weights h)
             (sym (flag_is F s plan ready row h) ∙ sym c.is_sound.ensures ∙ v.if-not-is_sound.true) _
             (subst (λ (r : ℕ). r < sizes.data_rows + sizes.parity_rows → Holds F meaning sizes now (row_cells F meaning sizes weights r now) (contents v.put.new.group.shelf.now)) v.worked_row.ensures.row (rw same.sizes at v.put.ensures.cells) h));
+        puts = λ ready.
+            let off = sym (flag_is F s plan ready row h) ∙ sym c.is_sound.ensures ∙ v.if-not-is_sound.true in
+            let f = fitting F s ready.fit in
+            let puts = (rw (same.sizes, v.worked_row.ensures.row) at v.put.ensures.puts) (omega (arith, f.n_high, f.m_high)) in
+            rw v.group-is (row_mended g.S.Shelf.stores F s row off (c.loop-row.invariant.puts ready) puts);
       }
       | else-not-is_sound v ↦ record {
         same = rw v.group-is same;
         held = λ ready blocks w.
             rw v.group-is (sound_next F meaning sizes before plan ready blocks w row h now (c.loop-row.invariant.held ready blocks w) (sym (flag_is F s plan ready row h) ∙ sym c.is_sound.ensures ∙ v.if-not-is_sound.false));
+        puts = λ ready. rw v.group-is (sound_passed g.S.Shelf.stores F s row (sym (flag_is F s plan ready row h) ∙ sym c.is_sound.ensures ∙ v.if-not-is_sound.false) (c.loop-row.invariant.puts ready));
       }
     ]
 
@@ -49,3 +61,12 @@ returns-clause-mended g c ready blocks w =
     let end : c.loop-row.row ≡ sizes.data_rows + sizes.parity_rows = omega (arith, c.rows-row-end.ensures, f.k_high, f.p_high) in
     all_mended F meaning sizes before ready.fit blocks _
     (rw end at (c.loop-row.invariant.held ready blocks w))
+
+pub returns-clause-puts : goal.returns-clause-puts
+returns-clause-puts g c ready =
+    let F = g.S.Symbol.Field.algebra in
+    let sizes = c.args.group.now.sizes in
+    let s = seen g.S.Symbol.Field.meaning sizes (g.S.Shelf.contents c.args.group.now.shelf.now) in
+    let f = fitting F s ready.fit in
+    let end : c.loop-row.row ≡ sizes.data_rows + sizes.parity_rows = omega (arith, c.rows-row-end.ensures, f.k_high, f.p_high) in
+    subst (λ v. PutsAt g.S.Shelf.stores c.args.group.now.shelf.now (mended_places F s v) c.loop-row.group.shelf.now) end (c.loop-row.invariant.puts ready)

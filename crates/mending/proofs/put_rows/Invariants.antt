@@ -2,8 +2,10 @@ use Rattle.std.proofs.Common.{ℕ}
 use Rattle.algebra.specs.Below.{Below}
 use Rattle.rules.specs.Updates.{Worked}
 use Rattle.rules.specs.Views.{seen}
+use Rattle.shelves.specs.Puts.{PutsAt}
 use Rattle.rows.specs.Cards.{Holds}
 use Rattle.rows.specs.Shown.{SameGroup}
+use Rattle.rules.specs.Order.{mended_places}
 use Rattle.mending.specs.Plans.{Ready}
 use Rattle.mending.specs.Puts.{mended_below}
 use Rattle.mending.proofs.put_rows.Given as goal
@@ -17,4 +19,5 @@ invariant-loop-row g l =
     let s = seen meaning sizes before in record {
       same : SameGroup l.initial.group l.group;
       held : Ready F s l.plan → (blocks : ℕ → ℕ → Below g.S.Symbol.Field.size) → Worked F s blocks → Holds F meaning sizes before (mended_below F meaning sizes blocks before l.row) (g.S.Shelf.contents l.group.shelf.now);
+      puts : Ready F s l.plan → PutsAt g.S.Shelf.stores l.initial.group.shelf.now (mended_places F s l.row) l.group.shelf.now;
     }

@@ -1,11 +1,15 @@
 use Rattle.std.proofs.Common.{ap, ◌∙◌}
 use Rattle.rules.specs.Views.{seen}
+use Rattle.shelves.proofs.Puts.{one_put}
 use Rattle.writes.specs.Steps.{cells_of}
 use Rattle.writes.proofs.Growing.{put_grown, inside_fit}
 use Rattle.writes.proofs.grow.Goals as goal
 
-pub returns : goal.returns
-returns g c sizes =
+pub returns-clause-puts : goal.returns-clause-puts
+returns-clause-puts g c = one_put g.S.Shelf.stores c.args.row c.args.place c.sum-symbol.result c.put.ensures.stored
+
+pub returns-clause-grown : goal.returns-clause-grown
+returns-clause-grown g c sizes =
     let F = g.S.Symbol.Field.algebra in
     let meaning = g.S.Symbol.Field.meaning in
     let before = g.S.Shelf.contents c.args.shelf.now in

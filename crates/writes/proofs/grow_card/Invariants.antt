@@ -1,5 +1,7 @@
 use Rattle.std.proofs.Common.{◌≡◌, ◌+◌, drop}
 use Rattle.rules.specs.Views.{seen}
+use Rattle.shelves.specs.Puts.{PutsAt, places_of}
+use Rattle.writes.specs.Few.{Few}
 use Rattle.writes.specs.Steps.{Puts, Readable, cells_of, card_grown}
 use Rattle.writes.proofs.grow_card.Given as goal
 
@@ -14,4 +16,5 @@ invariant-loop-component g l =
       counted : count + l.component-iterator.n ≡ sizes.card_length;
       left : l.component-iterator.iter.iter.rest.now ≡ drop count l.place.powers;
       held : Puts meaning (Readable F meaning sizes before l.row) (card_grown F (seen meaning sizes before) l.row l.place.index (meaning l.change) count (cells_of meaning before)) before (g.S.Shelf.contents l.shelf);
+      puts : Few sizes → PutsAt g.S.Shelf.stores l.initial.shelf (places_of l.row sizes.block_length count) l.shelf;
     }

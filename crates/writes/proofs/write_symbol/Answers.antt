@@ -1,6 +1,8 @@
-use Rattle.std.proofs.Common.{length-drop, ◌≡◌, sym, ap, ◌∙◌, ap₂, arith}
+use Rattle.std.proofs.Common.{length-drop, ◌≡◌, ◌+◌, sym, ap, ◌∙◌, ap₂, arith}
 use Rattle.rules.proofs.Rows.{fitting}
 use Rattle.rules.specs.Views.{seen}
+use native.Mathlib.Numerals.{unary_clauses}
+use Rattle.shelves.proofs.Puts.{puts_after}
 use Rattle.writes.specs.Steps.{rows_grown, cells_of}
 use Rattle.writes.proofs.Growing.{rows_step, all_rows}
 use Rattle.writes.proofs.Numbers.{numbered, next_item}
@@ -25,12 +27,15 @@ loop-i-preserved g c =
           (λ when. when.0.parity i (omega (arith, steps.1, inv.counted))) (λ when. when.1)
           (λ when. let f = fitting F s when.0.fitting in omega (arith, c.parity_row-parity_row.ensures, steps.0.1, steps.1, inv.counted))
           (λ when. c.product.ensures ∙ ap (λ v. F.mul v (meaning c.difference-change.result)) (numbered F _ _ c.element-weight.ensures.known (item.0 ∙ when.2 i (omega (arith, steps.1, inv.counted)))))
-          inv.held c.grow_row-in-loop-i.ensures
+          inv.held c.grow_row-in-loop-i.ensures.grown
           );
+      puts = λ few.
+          let at : c.parity_row-parity_row.result ≡ place.sizes.data_rows + i = omega (arith, few.data_rows, few.parity_rows, c.parity_row-parity_row.ensures, steps.0.1, steps.1, inv.counted) in
+          rw steps.0.2 (simp unary_clauses (puts_after g.S.Shelf.stores (inv.puts few) ((rw at at c.grow_row-in-loop-i.ensures.puts) few)));
     }
 
-pub returns : goal.returns
-returns g c =
+pub returns-clause-written : goal.returns-clause-written
+returns-clause-written g c =
     let F = g.S.Symbol.Field.algebra in
     let meaning = g.S.Symbol.Field.meaning in
     let place = c.args.place.now in

@@ -1,5 +1,8 @@
 use Rattle.std.proofs.Common.{◌≡◌, ◌+◌, ◌<◌, drop}
 use Rattle.rules.specs.Views.{seen}
+use Rattle.shelves.specs.Puts.{PutsAt}
+use Rattle.rules.specs.Order.{symbol_places}
+use Rattle.writes.specs.Few.{Few}
 use Rattle.writes.specs.Steps.{Puts, Writable, cells_of, rows_grown}
 use Rattle.writes.specs.Weights.{Column}
 use Rattle.writes.proofs.write_symbol.Given as goal
@@ -16,4 +19,5 @@ invariant-loop-i g l =
       left : l.i-iterator.iter.iter.rest.now ≡ drop count l.column;
       held : Puts meaning (Writable F meaning sizes before l.row × (l.place.index < sizes.block_length) × Column F l.row sizes.parity_rows l.column)
           (rows_grown F (seen meaning sizes before) l.row l.place.index (meaning l.change) count (cells_of meaning before)) before (g.S.Shelf.contents l.shelf);
+      puts : Few sizes → PutsAt g.S.Shelf.stores l.fn.shelf (symbol_places sizes l.row l.place.index count) l.shelf;
     }

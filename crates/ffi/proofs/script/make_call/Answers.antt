@@ -11,8 +11,8 @@ use Rattle.ffi.proofs.Numbers.{map_twice}
 use Rattle.ffi.proofs.Told.{told_numbers}
 use Rattle.ffi.proofs.script.make_call.Goals as goal
 
-pub returns : goal.returns
-returns g c =
+pub returns-clause-called : goal.returns-clause-called
+returns-clause-called g c =
     let F = g.S.Symbol.Field.algebra in
     let meaning = g.S.Symbol.Field.meaning in
     let numbers = c.args.numbers.now in

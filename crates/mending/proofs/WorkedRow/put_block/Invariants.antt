@@ -1,4 +1,5 @@
 use Rattle.std.proofs.Common.{◌+◌, ◌<◌}
+use Rattle.shelves.specs.Puts.{PutsAt, places_of}
 use Rattle.rows.specs.Cards.{Holds}
 use Rattle.rows.specs.Shown.{SameGroup}
 use Rattle.mending.specs.Stored.{stored}
@@ -13,4 +14,5 @@ invariant-loop-place g l =
     let before = g.S.Shelf.contents l.initial.group.shelf.now in record {
       same : SameGroup l.initial.group l.group;
       held : l.self.row < sizes.data_rows + sizes.parity_rows → Holds F meaning sizes before (block_cells F meaning sizes (stored F l.self.weights) l.self.row before l.place) (g.S.Shelf.contents l.group.shelf.now);
+      puts : PutsAt g.S.Shelf.stores l.initial.group.shelf.now (places_of l.self.row 0 l.place) l.group.shelf.now;
     }

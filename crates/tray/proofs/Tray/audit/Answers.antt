@@ -8,6 +8,7 @@ use Rattle.rules.specs.States.{State}
 use Rattle.rules.specs.Twins.{AuditFaithful}
 use Rattle.rules.proofs.Audits.{audit_exact, changes_seen, no_longer_sound}
 use Rattle.rules.proofs.Law.{faithful}
+use Rattle.rules.proofs.Rows.{fitting}
 use Rattle.tray.specs.State.{state}
 use Rattle.tray.proofs.Answering.{row_count, audit_no_row, audit_judged}
 use Rattle.tray.proofs.Tray.audit.Goals as goal
@@ -35,4 +36,5 @@ returns g c =
     let F = g.S.Symbol.Field.algebra in
     let s = state g.S.Shelf.contents g.S.Symbol.Field.meaning c.args.self.now in
     let all = row_count F s c.in_ok-ready.ensures.0 c.rows.ensures in
-    clauses F s c.args.row _ (audit_judged F s c.in_ok-ready.ensures.0 c.in_ok-ready.ensures.1 c.args.row c.audit.result (omega arith) ((rw (c.group.ensures.sizes, c.group.ensures.shelf) at c.audit.ensures) c.in_ok-ready.ensures.0))
+    let f = fitting F s c.in_ok-ready.ensures.0 in
+    clauses F s c.args.row _ (audit_judged F s c.in_ok-ready.ensures.0 c.in_ok-ready.ensures.1 c.args.row c.audit.result (omega arith) ((rw (c.group.ensures.sizes, c.group.ensures.shelf) at c.audit.ensures) (omega (arith, f.n_high, f.m_high))))

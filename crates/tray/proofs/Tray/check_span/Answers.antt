@@ -1,6 +1,7 @@
-use Rattle.std.proofs.Common.{◌≡◌, true, false, refl, sym, ap, ◌∙◌}
+use Rattle.std.proofs.Common.{◌≡◌, true, false, refl, sym, ap, ◌∙◌, arith}
 use Rattle.rules.specs.Calls.{is_sound}
 use Rattle.rules.specs.States.{sound}
+use Rattle.rules.proofs.Rows.{fitting}
 use Rattle.tray.specs.State.{state}
 use Rattle.tray.proofs.Tray.check_span.Goals as goal
 
@@ -9,7 +10,8 @@ returns-then-not-is_sound g c fit =
     let F = g.S.Symbol.Field.algebra in
     let meaning = g.S.Symbol.Field.meaning in
     let s = state g.S.Shelf.contents meaning c.args.self.now in
-    let found = (rw (c.group.ensures.sizes, c.group.ensures.shelf) at c.audit-verdict.ensures) fit in
+    let f = fitting F s fit in
+    let found = (rw (c.group.ensures.sizes, c.group.ensures.shelf) at c.audit-verdict.ensures) (omega (arith, f.n_high, f.m_high)) in
     let unsound : sound F s c.args.row ≡ false = ap is_sound (sym found) ∙ sym c.if-not-is_sound.ensures in
     rw (sym c.if-not-allows.ensures, unsound, found) refl
 
@@ -18,6 +20,7 @@ returns g c fit =
     let F = g.S.Symbol.Field.algebra in
     let meaning = g.S.Symbol.Field.meaning in
     let s = state g.S.Shelf.contents meaning c.args.self.now in
-    let found = (rw (c.group.ensures.sizes, c.group.ensures.shelf) at c.audit-verdict.ensures) fit in
+    let f = fitting F s fit in
+    let found = (rw (c.group.ensures.sizes, c.group.ensures.shelf) at c.audit-verdict.ensures) (omega (arith, f.n_high, f.m_high)) in
     let whole : sound F s c.args.row ≡ true = ap is_sound (sym found) ∙ sym c.if-not-is_sound.ensures in
     rw (sym c.if-not-allows.ensures, whole) refl

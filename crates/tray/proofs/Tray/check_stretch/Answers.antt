@@ -25,7 +25,7 @@ returns-in-Some-first_misfit g c fit room =
     let s = state g.S.Shelf.contents meaning c.args.self.now in
     let f = fitting F s fit in
     let whole = holes_found F meaning c.args.self.now.sizes (g.S.Shelf.contents c.args.self.now.shelf) fit c.args.start c.args.places _ (rw (c.group.ensures.sizes, c.group.ensures.shelf) at (c.first_hole.ensures (omega (arith, f, room)))) ∙ c.in_default.is in
-    let misfits = (rw (c.group-2.ensures.sizes, c.group-2.ensures.shelf) at c.first_misfit.ensures) (omega (arith, f, room)) f.p_high f.k_high f.enough in
+    let misfits = (rw (c.group-2.ensures.sizes, c.group-2.ensures.shelf) at c.first_misfit.ensures) (omega (arith, f, room)) (omega (arith, f.k_high, f.p_high)) (omega (arith, f.p_high, f.enough)) f.k_high f.enough in
     let hit = sym misfits ∙ c.in-Some-first_misfit.is in
     let low = lowest_pair_some (p s) c.args.places _ c.in-Some-first_misfit.i c.in-Some-first_misfit.offset hit in
     let at : c.saturating_add-in-Some-first_misfit.result ≡ c.args.start + c.in-Some-first_misfit.offset = omega (arith, c.saturating_add-in-Some-first_misfit.ensures, f, room, low.1) in
@@ -39,5 +39,5 @@ returns g c fit room =
     let s = state g.S.Shelf.contents meaning c.args.self.now in
     let f = fitting F s fit in
     let whole = holes_found F meaning c.args.self.now.sizes (g.S.Shelf.contents c.args.self.now.shelf) fit c.args.start c.args.places _ (rw (c.group.ensures.sizes, c.group.ensures.shelf) at (c.first_hole.ensures (omega (arith, f, room)))) ∙ c.in_default.is in
-    let misfits = (rw (c.group-2.ensures.sizes, c.group-2.ensures.shelf) at c.first_misfit.ensures) (omega (arith, f, room)) f.p_high f.k_high f.enough in
+    let misfits = (rw (c.group-2.ensures.sizes, c.group-2.ensures.shelf) at c.first_misfit.ensures) (omega (arith, f, room)) (omega (arith, f.k_high, f.p_high)) (omega (arith, f.p_high, f.enough)) f.k_high f.enough in
     sym (ap₂ (stretch_found F s c.args.start) whole (sym misfits ∙ c.in_default-first_misfit.is))

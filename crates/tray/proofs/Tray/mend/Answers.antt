@@ -10,20 +10,21 @@ use Rattle.rules.specs.Twins.{MendFaithful, Faithful}
 use Rattle.rules.proofs.Answered.{answered}
 use Rattle.rules.proofs.Law.{faithful}
 use Rattle.rules.proofs.Mend.{mend_exact}
+use Rattle.shelves.proofs.Puts.{no_puts}
 use Rattle.tray.specs.State.{state}
 use Rattle.tray.proofs.Mending.{mend_many, mend_misfit, mend_done}
 use Rattle.tray.proofs.Tray.mend.Goals as goal
 
 -- all clauses, from the promise
-clauses : {A : Type 0} (F : Field A) (s s' : State A) (answer : Answer A) → Promise F s mend answer s'
-    → record { promise : Promise F s mend answer s'; exact : MendExact F; answered : (q : ℕ) (F : Field (Below q)) → Answered F; law : (q : ℕ) (F : Field (Below q)) → Faithful F; after_runs : MendFaithful F s s' }
-clauses F s s' answer promise =
-    record { promise = promise; exact = mend_exact F; answered = λ q F. answered F; law = λ q F. faithful F; after_runs = (faithful F s).1 answer s' promise }
+clauses : {A O P R : Type 0} (F : Field A) (s s' : State A) (answer : Answer A) → Promise F s mend answer s' → O → P → R
+    → record { promise : Promise F s mend answer s'; exact : MendExact F; answered : (q : ℕ) (F : Field (Below q)) → Answered F; law : (q : ℕ) (F : Field (Below q)) → Faithful F; after_runs : MendFaithful F s s'; order : O; puts : P; refused : R }
+clauses F s s' answer promise order puts refused =
+    record { promise = promise; exact = mend_exact F; answered = λ q F. answered F; law = λ q F. faithful F; after_runs = (faithful F s).1 answer s' promise; order = order; puts = puts; refused = refused }
 
 pub returns-in_err-ready : goal.returns-in_err-ready
 returns-in_err-ready g c =
     let q = err_from_is_err_and c.from_residual.result c.from_residual.ensures.1 in
-    clauses g.S.Symbol.Field.algebra (state g.S.Shelf.contents g.S.Symbol.Field.meaning c.args.self.now) _ _ (rw (q.1, q.2) (c.in_err-ready.ensures mend refl))
+    clauses g.S.Symbol.Field.algebra (state g.S.Shelf.contents g.S.Symbol.Field.meaning c.args.self.now) _ _ (rw (q.1, q.2) (c.in_err-ready.ensures mend refl)) (rw q.1 tt) (no_puts _ _) (rw q.1 refl)
 
 pub returns-then-damage-self : goal.returns-then-damage-self
 returns-then-damage-self g c =
@@ -31,7 +32,7 @@ returns-then-damage-self g c =
     let s = state g.S.Shelf.contents g.S.Symbol.Field.meaning c.args.self.now in
     let fit = c.in_ok-ready.ensures.0 in
     let gathered = (rw (c.group.ensures.sizes, c.group.ensures.shelf) at c.gather-damage.ensures) fit in
-    clauses F s _ _ (mend_many F s fit c.in_ok-ready.ensures.1 c.gather-damage.result.count gathered.count c.if-damage-self.true)
+    clauses F s _ _ (mend_many F s fit c.in_ok-ready.ensures.1 c.gather-damage.result.count gathered.count c.if-damage-self.true) tt (no_puts _ _) refl
 
 pub returns-in-Some : goal.returns-in-Some
 returns-in-Some g c =
@@ -42,7 +43,7 @@ returns-in-Some g c =
     let few : unsound_count F s ≤ p s = omega (arith, gathered.count, c.if-damage-self.false) in
     let ready = c.new-plan.ensures.ready (new s.sizes s.contents) refl fit few gathered in
     let found = (rw (c.group-2.ensures.sizes, c.group-2.ensures.shelf) at c.first_worked_misfit.ensures) ready in
-    clauses F s _ _ (mend_misfit F s fit c.in_ok-ready.ensures.1 few c.first_worked_misfit.result found c.in-Some.i c.in-Some.place c.parity_row.result c.parity_row.ensures c.in-Some.is)
+    clauses F s _ _ (mend_misfit F s fit c.in_ok-ready.ensures.1 few c.first_worked_misfit.result found c.in-Some.i c.in-Some.place c.parity_row.result c.parity_row.ensures c.in-Some.is) tt (no_puts _ _) refl
 
 pub returns : goal.returns
 returns g c =
@@ -53,4 +54,5 @@ returns g c =
     let few : unsound_count F s ≤ p s = omega (arith, gathered.count, c.if-damage-self.false) in
     let ready = c.new-plan.ensures.ready (new s.sizes s.contents) refl fit few gathered in
     let found = (rw (c.group-2.ensures.sizes, c.group-2.ensures.shelf) at c.first_worked_misfit.ensures) ready in
-    clauses F s _ _ (mend_done F s fit c.in_ok-ready.ensures.1 few c.first_worked_misfit.result found c.in_default.is c.gather-damage.result.count gathered.count _ (c.put_rows.ensures.mended ready))
+    let puts = c.put_rows.ensures.puts ready in
+    clauses F s _ _ (mend_done F s fit c.in_ok-ready.ensures.1 few c.first_worked_misfit.result found c.in_default.is c.gather-damage.result.count gathered.count _ (c.put_rows.ensures.mended ready)) puts (record { places = _; puts = puts }) tt

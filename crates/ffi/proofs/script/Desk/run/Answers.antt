@@ -23,7 +23,7 @@ loop-index-preserved g c =
     ∙ step_words (drop (4 * i) script) in
     record {
       runs =
-          one_more g.S.Shelf.contents F.meaning F.algebra (ByClosure g.D.Fn c.args.damage) (length start.symbols.now) script c.args.tray.now start.numbers.now start.answers.now i
+          one_more g.S.Shelf.contents g.S.Shelf.stores F.meaning F.algebra (ByClosure g.D.Fn c.args.damage) (length start.symbols.now) script c.args.tray.now start.numbers.now start.answers.now i
           c.loop-index.tray now.numbers.now now.answers.now c.take.new.tray c.take.new.self.numbers.now c.take.new.self.answers.now c.from-step.result (length now.symbols.now)
           I.runs is I.room (c.take.ensures.taken (numbers_before script i) I.from);
       same = record { numbers = c.take.ensures.same.numbers ∙ I.same.numbers; answers = c.take.ensures.same.answers ∙ I.same.answers };
@@ -40,5 +40,5 @@ returns-clause-runs g c =
     let F = g.F.Field in
     let start = c.args.self.now in
     let end : c.loop-index.index ≡ length c.args.script.now / 4 = omega (arith, c.as_chunks.ensures.front_len, c.loop-index-test.false, c.loop-index.auto.index-end) in
-    subst (λ (v : ℕ). Runs g.S.Shelf.contents F.meaning F.algebra (ByClosure g.D.Fn c.args.damage) (length start.symbols.now) c.args.script.now c.args.tray.now start.numbers.now start.answers.now v c.loop-index.tray c.loop-index.self.numbers.now c.loop-index.self.answers.now)
+    subst (λ (v : ℕ). Runs g.S.Shelf.contents g.S.Shelf.stores F.meaning F.algebra (ByClosure g.D.Fn c.args.damage) (length start.symbols.now) c.args.script.now c.args.tray.now start.numbers.now start.answers.now v c.loop-index.tray c.loop-index.self.numbers.now c.loop-index.self.answers.now)
     end c.loop-index.invariant.runs
