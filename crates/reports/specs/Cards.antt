@@ -2,6 +2,7 @@
 use Rattle.std.specs.Prelude.{◌≡◌, ℕ, ◌+◌, cond, ◌&&◌, List, [], map, min, take, Ok, Err, Result, nat_lt, slice_index_or}
 use Rattle.std.specs.List.{range_with_len}
 use Rattle.algebra.specs.Algebra.{Field}
+use Rattle.shelves.specs.Contents.{Contents}
 use Rattle.rules.specs.Calls.{Answer, intake, done, refused}
 use Rattle.rules.specs.Promises.{Promise}
 use Rattle.rules.specs.States.{State, k, p, n, m, symbol_at}
@@ -40,3 +41,9 @@ module _ {A : Type 0} (F : Field A) where
     pub after : State A
     pub promise : Promise F s intake (outcome_answer o) after
     pub cards : OutcomeCards after o
+
+  -- What intake with this outcome leaves of a shelf: the contents of the state after.
+  pub record ContentsLeft (s : State A) (o : Result Cards Refusal) (contents : Contents A) : Type 0 where
+    pub after : State A
+    pub promise : Promise F s intake (outcome_answer o) after
+    pub same : contents ≡ after.contents

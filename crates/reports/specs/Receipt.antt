@@ -1,15 +1,18 @@
 -- What takein answers: the report on its input, and for a good image what intake answers to the image's tray.
-use Rattle.std.specs.Prelude.{◌≡◌, ℕ, List, Ok, Err, Result}
+use Rattle.std.specs.Prelude.{◌≡◌, ℕ, List, Ok, Err, Result, OnErr}
+use Rattle.algebra.specs.Algebra.{Field}
 use Rattle.byte_field.specs.Meaning.{byte_algebra, byte_meaning}
 use Rattle.counter_field.specs.Meaning.{counter_algebra, counter_meaning}
 use Rattle.images.specs.declared.FieldKind.{FieldKind}
 use Rattle.images.specs.declared.FieldKind.TheVariants.{Byte, Counter}
 use Rattle.images.specs.declared.Head.{Head}
-use Rattle.image_shelves.specs.Fields.{byte_image, counter_image}
-use Rattle.rules.specs.Views.{seen}
+use Rattle.image_shelves.specs.Fields.{byte_image, counter_image, BytesPut}
+use Rattle.shelves.specs.Contents.{Contents}
+use Rattle.rules.specs.States.{new}
+use Rattle.rules.specs.Views.{seen, seen_contents}
 use Rattle.rules.specs.declared.Refusal.{Refusal}
 use Rattle.rules.specs.declared.Sizes.{Sizes}
-use Rattle.reports.specs.Cards.{OutcomeOf}
+use Rattle.reports.specs.Cards.{OutcomeOf, ContentsLeft}
 use Rattle.reports.specs.Report.{reported}
 use Rattle.reports.specs.declared.InputRefusal.{InputRefusal}
 use Rattle.reports.specs.declared.cards.Cards.{Cards}
@@ -35,7 +38,17 @@ Received bytes receipt = ReceiptOf bytes (reported bytes) receipt
 abbrev pub OnlyReceipt : List ℕ → Result Receipt InputRefusal → Type 0
 OnlyReceipt bytes receipt = (other : Result Receipt InputRefusal) → Received bytes other → other ≡ receipt
 
--- An input that is no image stays as it was. Of the bytes of an image, where cards may be put, nothing is said.
-abbrev pub NoImageKept : List ℕ → List ℕ → Result Receipt InputRefusal → Type 0
-NoImageKept before after (Err r) = after ≡ before
-NoImageKept before after (Ok receipt) = Unit {0}
+-- What is left of an image's bytes: the contents that intake promises, by puts alone; and every byte where it was refused.
+pub record BytesLeft {A : Type 0} (F : Field A) (kind width : ℕ) (image : List ℕ → Contents A) (sizes : Sizes) (before : List ℕ) (o : Result Cards Refusal) (after : List ℕ) : Type 0 where
+  pub contents : ContentsLeft F (new sizes (image before)) o (image after)
+  pub puts : BytesPut kind width F.size before after
+  pub refused : OnErr o (after ≡ before)
+
+abbrev pub ImageLeft : FieldKind → Sizes → List ℕ → Result Cards Refusal → List ℕ → Type 0
+ImageLeft Byte sizes before o after = BytesLeft byte_algebra 1 1 (λ bytes. seen_contents byte_meaning (byte_image bytes)) sizes before o after
+ImageLeft Counter sizes before o after = BytesLeft counter_algebra 2 3 (λ bytes. seen_contents counter_meaning (counter_image bytes)) sizes before o after
+
+-- What is left of an input: all of it where it is no image.
+abbrev pub InputLeft : List ℕ → List ℕ → Result Receipt InputRefusal → Type 0
+InputLeft before after (Err r) = after ≡ before
+InputLeft before after (Ok receipt) = ImageLeft receipt.head.field (head_sizes receipt.head) before receipt.intake after

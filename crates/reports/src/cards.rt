@@ -1,8 +1,9 @@
 // Intake of a new tray over any shelf, and the cards that it leaves, by their numbers.
 
-ghost use Rattle.std.specs.Prelude.{◌≡◌, ◌+◌, ◌<◌, ◌≤◌};
-ghost use Rattle.reports.specs.Cards.{cards_of, numbers_of, listed, component_number, OutcomeOf};
-ghost use Rattle.rules.specs.Views.{seen};
+ghost use Rattle.std.specs.Prelude.{◌≡◌, ◌+◌, ◌<◌, ◌≤◌, OnErr};
+ghost use Rattle.reports.specs.Cards.{cards_of, numbers_of, listed, component_number, OutcomeOf, ContentsLeft};
+ghost use Rattle.rules.specs.Views.{seen, seen_contents};
+ghost use Rattle.shelves.specs.Puts.{ByPuts};
 
 use algebra::Field;
 use rows::{Group, symbol_at};
@@ -71,17 +72,21 @@ where
     }
 }
 
-// Takes in a new tray of these sizes over a shelf.
-pub fn take_in<S: Shelf + Drop>(shelf: S, sizes: Sizes) -> Result<Cards, Refusal>
+// Takes in a new tray of these sizes over a shelf, and gives the shelf back beside the cards.
+pub fn take_in<S: Shelf>(shelf: S, sizes: Sizes) -> (Result<Cards, Refusal>, S)
 where
     S::Symbol: Field,
-    ensures { OutcomeOf S.Symbol.Field.algebra (seen S.Symbol.Field.meaning sizes (S.Shelf.contents shelf)) result }
+    ensures outcome { OutcomeOf S.Symbol.Field.algebra (seen S.Symbol.Field.meaning sizes (S.Shelf.contents shelf)) result.0 }
+    ensures left { ContentsLeft S.Symbol.Field.algebra (seen S.Symbol.Field.meaning sizes (S.Shelf.contents shelf)) result.0 (seen_contents S.Symbol.Field.meaning (S.Shelf.contents result.1)) }
+    ensures puts { ByPuts S.Shelf.stores shelf result.1 }
+    ensures refused { OnErr result.0 (result.1 ≡ shelf) }
 {
     let mut tray = Tray::over(shelf, sizes);
-    tray.intake()?;
+    let taken = tray.intake();
     let shelf = tray.into_shelf();
-    Ok(read_cards(&Group {
+    let cards = taken.map(|()| read_cards(&Group {
         shelf: &shelf,
         sizes,
-    }))
+    }));
+    (cards, shelf)
 }

@@ -1,25 +1,13 @@
-use Rattle.std.proofs.Common.{ap, ◌∙◌}
-use Rattle.std.proofs.lemmas.Result.{err_from_is_err_and}
-use Rattle.rules.specs.Views.{seen}
-use Rattle.tray.specs.State.{state}
-use Rattle.reports.specs.Cards.{cards_of}
-use Rattle.reports.proofs.Taking.{told_taken, told_refused}
+use Rattle.std.proofs.Common.{rules, tests, ap}
+use Rattle.rules.specs.Views.{seen_contents}
+use Rattle.reports.proofs.Taking.{told, left}
 use Rattle.reports.proofs.cards.take_in.Goals as goal
 
-pub returns-in_err-intake : goal.returns-in_err-intake
-returns-in_err-intake g c =
-    let F = g.S.Symbol.Field.algebra in
-    let meaning = g.S.Symbol.Field.meaning in
-    let contents = g.S.Shelf.contents in
-    let p = err_from_is_err_and c.from_residual.result c.from_residual.ensures.1 in
-    rw (p.1, p.2) (told_refused F _ (seen meaning c.args.sizes (contents c.args.shelf)) (state contents meaning c.intake.new.self) c.in_err-intake.field-0.0
-    c.over-tray.ensures.state c.in_err-intake.ensures.promise)
+pub returns-clause-outcome : goal.returns-clause-outcome
+returns-clause-outcome g c =
+    told g.S.Symbol.Field.algebra _ _ _ _ c.over-tray.ensures.state c.intake-taken.result c.intake-taken.ensures.promise c.map-cards.result c.map-cards.ensures.cases (λ cards read. search (rules, tests))
 
-pub returns : goal.returns
-returns g c =
-    let F = g.S.Symbol.Field.algebra in
-    let meaning = g.S.Symbol.Field.meaning in
-    let contents = g.S.Shelf.contents in
-    told_taken F _ (seen meaning c.args.sizes (contents c.args.shelf)) (state contents meaning c.intake.new.self) c.read_cards.result
-    c.over-tray.ensures.state c.in_ok-intake.ensures.promise
-    (λ few parities short components. c.read_cards.ensures few parities short components ∙ ap (λ v. cards_of F (seen meaning c.args.sizes (contents v))) c.into_shelf-shelf.ensures)
+pub returns-clause-left : goal.returns-clause-left
+returns-clause-left g c =
+    left g.S.Symbol.Field.algebra _ _ _ _ c.over-tray.ensures.state c.intake-taken.result c.intake-taken.ensures.promise c.map-cards.result c.map-cards.ensures.cases _
+    (ap (λ v. seen_contents g.S.Symbol.Field.meaning (g.S.Shelf.contents v)) c.into_shelf-shelf.ensures)
