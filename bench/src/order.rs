@@ -79,8 +79,7 @@ fn agrees(field: &Arithmetic, kind: Kind, random: &mut Random, compared: &mut us
         println!("  rules {:?}\n  core {:?}", growing.puts, puts);
         return false;
     }
-    let mut places: Vec<(usize, usize)> = puts[..cards].iter().map(|put| (put[0], put[1])).collect();
-    places.sort_unstable();
+    let places: Vec<(usize, usize)> = puts[..cards].iter().map(|put| (put[0], put[1])).collect();
     places == (0..rows).flat_map(|row| (n..n + sizes[3]).map(move |place| (row, place))).take(cards).collect::<Vec<_>>()
 }
 

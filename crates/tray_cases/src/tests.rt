@@ -5,7 +5,7 @@ mod written;
 use algebra::Field;
 use byte_field::Byte;
 use counter_field::Counter;
-use rules::{Refusal, Sizes};
+use rules::{Refusal, Sizes, Verdict};
 use shelves::ArrayShelf;
 use std::alloc::{AllocError, Global};
 use std::test::Fail;
@@ -163,4 +163,27 @@ fn intake_looks_for_holes_first(rt: HostRuntime) {
     marks[15] = 0;
     let mut tray = delivered(&mut symbols, &mut marks);
     assert_eq!(rt; tray.intake(), Err(Refusal::Unreadable(2, 2)));
+}
+
+// A refusal's text: its number, and what it carries.
+#[test]
+fn refusals_as_text(rt: HostRuntime) -> Result<(), Fail> {
+    let texts = [
+        (Refusal::DoesNotFit, "1"),
+        (Refusal::NotTakenIn, "2"),
+        (Refusal::TakenInAlready, "3"),
+        (Refusal::NoSuchRow(7), "4 7"),
+        (Refusal::BadSpan(9), "5 9"),
+        (Refusal::Unsound(2, Verdict::Hole(5)), "6 2 5"),
+        (Refusal::Unsound(2, Verdict::Card(1)), "6 2 1"),
+        (Refusal::Unreadable(3, 4), "7 3 4"),
+        (Refusal::Misfit(3, 4), "8 3 4"),
+        (Refusal::TooManyUnsound(5), "9 5"),
+        (Refusal::WrongPhase, "10"),
+        (Refusal::StillWalking(6), "11 6"),
+    ];
+    for (refusal, text) in texts {
+        assert_eq!(rt; refusal.to_string(rt.alloc())?.as_str(), text);
+    }
+    Ok(())
 }
