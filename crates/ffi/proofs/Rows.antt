@@ -1,5 +1,6 @@
 -- Parity rows written down, one more and none.
-use Rattle.std.proofs.Common.{refl, ◌≡◌, ℕ, zero, suc, ◌+◌, ◌*◌, ◌-◌, ◌<◌, ◌≤◌, min, List, [], ◌∷◌, ◌++◌, length, set, take, drop, sym, ap, ap₂, ◌∙◌, add-zero, arith, inl, inr, length-drop, length-append, length-take}
+use Rattle.std.proofs.Common.{refl, true, ◌≡◌, ℕ, zero, suc, ◌+◌, ◌*◌, ◌-◌, ◌<◌, ◌≤◌, min, List, [], ◌∷◌, ◌++◌, length, set, take, drop, sym, ap, ap₂, ◌∙◌, add-zero, arith, inl, inr, length-drop, length-append, length-take}
+use Rattle.std.proofs.lemmas.Bool.Decides.{nat_tests}
 use Rattle.std.proofs.Math.Nat.{mul-le-mul_left}
 use Rattle.std.proofs.lemmas.Bool.{cases_lt}
 use Rattle.std.proofs.lemmas.List.{take_more_set, drop_min, take_all, drop_all, take-append-drop, append-nil}
@@ -9,7 +10,11 @@ use Rattle.rules.specs.Views.{element_at}
 use Rattle.rules.specs.declared.Sizes.{Sizes}
 use Rattle.shelves.specs.Contents.{Contents}
 use Rattle.ffi.specs.Answers.{written_at}
-use Rattle.ffi.specs.Parity.{row_numbers, rows_written, parity_written}
+use Rattle.ffi.specs.Parity.{has_rows, row_numbers, rows_written, parity_written}
+
+-- what the test of the rows says
+pub rows_allowed : {A : Type 0} (F : Field A) (sizes : Sizes) → has_rows F sizes ≡ true → (sizes.parity_rows ≤ 4) × (sizes.data_rows ≤ 64) × (sizes.data_rows + 4 ≤ F.size)
+rows_allowed F sizes e = (grind (arith, nat_tests), grind (arith, nat_tests), grind (arith, nat_tests))
 
 -- nothing written, and something written beyond the room
 written_none : (at : ℕ) (room : List ℕ) → written_at at [] room ≡ room

@@ -1,5 +1,5 @@
 -- Parity rows worked from a shelf's data rows, by their numbers.
-use Rattle.std.specs.Prelude.{◌≡◌, ◌≤◌, Bool, cond, ℕ, zero, suc, ◌+◌, ◌*◌, List, [], ◌∷◌}
+use Rattle.std.specs.Prelude.{◌≡◌, ◌&&◌, nat_le, Bool, cond, ℕ, zero, suc, ◌+◌, ◌*◌, List, [], ◌∷◌}
 use Rattle.algebra.specs.Algebra.{Field}
 use Rattle.rules.specs.Codes.{combination}
 use Rattle.rules.specs.Views.{element_at}
@@ -7,6 +7,10 @@ use Rattle.rules.specs.declared.Sizes.{Sizes}
 use Rattle.shelves.specs.Contents.{Contents}
 use Rattle.ffi.specs.Answers.{written_at}
 use Rattle.ffi.specs.Copies.{lent_contents}
+
+-- no more rows than the rules allow, and elements of the field for all of them
+abbrev pub has_rows : {A : Type 0} → Field A → Sizes → Bool
+has_rows F sizes = nat_le sizes.parity_rows 4 && (nat_le sizes.data_rows 64 && nat_le (sizes.data_rows + 4) F.size)
 
 module _ {X A : Type 0} (F : Field A) (meaning : X → A) (contents : Contents X) (sizes : Sizes) where
   -- the numbers of what parity row i holds at so many places from a start on
@@ -24,7 +28,10 @@ module _ {X A : Type 0} (F : Field A) (meaning : X → A) (contents : Contents X
   parity_written zero room = room
   parity_written (suc times) room = rows_written sizes.parity_rows (parity_written times room)
 
--- What working the parity rows leaves of the numbers, for sizes that the field and the rules allow, over an image or over lent memory with its contents.
+  -- the same for sizes with rows, and for others the numbers as they were
+  abbrev pub parity_left : ℕ → List ℕ → List ℕ
+  parity_left times room = cond (has_rows F sizes) (parity_written times room) room
+
+-- What working the parity rows leaves of the numbers, over an image or over lent memory with its contents.
 abbrev pub ParityOf : {X A : Type 0} → Field A → (X → A) → Bool → ℕ → Contents X → Sizes → ℕ → List ℕ → List ℕ → Type 0
-ParityOf F meaning lent capacity image sizes times before after =
-    sizes.parity_rows ≤ 4 → sizes.data_rows ≤ 64 → sizes.data_rows + 4 ≤ F.size → after ≡ parity_written F meaning (cond lent (lent_contents capacity image) image) sizes times before
+ParityOf F meaning lent capacity image sizes times before after = after ≡ parity_left F meaning (cond lent (lent_contents capacity image) image) sizes times before

@@ -1,7 +1,7 @@
 // Symbols copied from shelf to shelf, and the parity of a shelf's blocks.
 ghost use Rattle.std.specs.Prelude.{◌≡◌, ◌+◌, ◌<◌, ◌≤◌, length};
 ghost use Rattle.ffi.specs.Copies.{copied};
-ghost use Rattle.ffi.specs.Parity.{parity_written, row_numbers, rows_written};
+ghost use Rattle.ffi.specs.Parity.{has_rows as rows_allowed, parity_left, row_numbers, rows_written};
 
 use algebra::Field;
 use rows::{coefficient_row, combination};
@@ -40,7 +40,7 @@ where
     }
 }
 
-// Works all parity rows and writes them down, one behind the other, as far as there is room. The limits of the sizes are premises here and in runs.
+// Works all parity rows and writes them down, one behind the other, as far as there is room. The limits of the sizes are premises here; `parity` asks for them.
 fn parity_rows<S: Shelf>(shelf: &S, sizes: Sizes, numbers: &mut [usize])
 where
     S::Symbol: Field,
@@ -57,12 +57,22 @@ where
     }
 }
 
-// Works all parity rows so many times, as intake does to compare them.
+// Whether the rules allow so many rows, and the field has their elements.
+fn has_rows<F: Field>(sizes: Sizes) -> bool
+    ensures { result ≡ rows_allowed F.Field.algebra sizes }
+{
+    sizes.parity_rows <= 4 && sizes.data_rows <= 64 && sizes.data_rows + 4 <= F::order()
+}
+
+// Works all parity rows so many times, as intake does to compare them; of sizes that no tray has it works none.
 pub(crate) fn parity<S: Shelf>(shelf: &S, sizes: Sizes, times: usize, numbers: &mut [usize])
 where
     S::Symbol: Field,
-    ensures { sizes.parity_rows ≤ 4 → sizes.data_rows ≤ 64 → sizes.data_rows + 4 ≤ S.Symbol.Field.algebra.size → numbers.new ≡ parity_written S.Symbol.Field.algebra S.Symbol.Field.meaning (S.Shelf.contents shelf.now) sizes times numbers.old }
+    ensures { numbers.new ≡ parity_left S.Symbol.Field.algebra S.Symbol.Field.meaning (S.Shelf.contents shelf.now) sizes times numbers.old }
 {
+    if !has_rows::<S::Symbol>(sizes) {
+        return;
+    }
     if sizes.block_length == 0 {
         return;
     }

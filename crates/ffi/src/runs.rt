@@ -7,7 +7,7 @@ ghost use Rattle.image_shelves.specs.Layout.{image_contents};
 ghost use Rattle.shelves.specs.Array.{array_contents};
 ghost use Rattle.ffi.specs.Copies.{MemoryRun, copied, lent_contents};
 ghost use Rattle.ffi.specs.Images.{ImageRun, Struck};
-ghost use Rattle.ffi.specs.Parity.{parity_written};
+ghost use Rattle.ffi.specs.Parity.{parity_left};
 ghost use Rattle.ffi.specs.Puts.{PutsOf};
 ghost use Rattle.ffi.specs.Runs.{SameDesk};
 ghost use Rattle.ffi.specs.Script.{elements};
@@ -128,7 +128,7 @@ pub(crate) fn parity_over_image<F: OwnSymbols>(
     times: usize,
     numbers: &mut [usize],
 )
-    ensures numbers { sizes.parity_rows ≤ 4 → sizes.data_rows ≤ 64 → sizes.data_rows + 4 ≤ F.Field.algebra.size → numbers.new ≡ parity_written F.Field.algebra F.Field.meaning (image_contents F.CodedField.kind F.CodedField.width F.Field.algebra.size F.Field.symbol image.old) sizes times numbers.old }
+    ensures numbers { numbers.new ≡ parity_left F.Field.algebra F.Field.meaning (image_contents F.CodedField.kind F.CodedField.width F.Field.algebra.size F.Field.symbol image.old) sizes times numbers.old }
     ensures image { image.new ≡ image.old }
 {
     parity(&ImageShelf::<F>::over(image), sizes, times, numbers);
@@ -141,7 +141,7 @@ pub(crate) fn parity_over_memory<F: OwnSymbols>(
     times: usize,
     numbers: &mut [usize],
 )
-    ensures numbers { (capacity : ℕ) → min (length memory.entry.symbols.now) (length memory.entry.marks.now) ≡ capacity → sizes.parity_rows ≤ 4 → sizes.data_rows ≤ 64 → sizes.data_rows + 4 ≤ F.Field.algebra.size → numbers.new ≡ parity_written F.Field.algebra F.Field.meaning (lent_contents capacity (image_contents F.CodedField.kind F.CodedField.width F.Field.algebra.size F.Field.symbol image.old)) sizes times numbers.old }
+    ensures numbers { (capacity : ℕ) → min (length memory.entry.symbols.now) (length memory.entry.marks.now) ≡ capacity → numbers.new ≡ parity_left F.Field.algebra F.Field.meaning (lent_contents capacity (image_contents F.CodedField.kind F.CodedField.width F.Field.algebra.size F.Field.symbol image.old)) sizes times numbers.old }
     ensures image { image.new ≡ image.old }
 {
     let image = ImageShelf::<F>::over(image);
