@@ -1,5 +1,5 @@
 -- Contents copied place after place.
-use Rattle.std.proofs.Common.{◌≡◌, ℕ, ◌+◌, ◌<◌, ◌≤◌, Bool, true, false, cond, ◌&&◌, eqb, Some, None, ◌⊎◌, inl, inr, refl, sym, ap, ap₂, ◌∙◌, arith, eqb-true}
+use Rattle.std.proofs.Common.{◌≡◌, ℕ, ◌+◌, ◌<◌, ◌≤◌, min, Bool, true, false, cond, ◌&&◌, eqb, Some, None, ◌⊎◌, inl, inr, refl, sym, ap, ap₂, ◌∙◌, arith, eqb-true}
 use Rattle.std.proofs.lemmas.Bool.Decides.{nat_tests}
 use Rattle.std.proofs.lemmas.Bool.{and_parts, cases_lt}
 use Rattle.algebra.proofs.Cases.{by_cases}
@@ -101,4 +101,20 @@ module _ {X : Type 0} (from to : Contents X) where
       elim (cases_lt r from.rows) [
         | inl h ↦ inl (before_end from.rows r c h)
         | inr h ↦ inr (hole_is (from.at r c) (from.beyond r c (not_within_row from.rows from.places r c h)))
+      ])
+
+  -- a row that only one of the two has holds nothing to copy, or has no room for it
+  pub enough_copied : (rows : ℕ) → rows ≡ min from.rows to.rows → copied_where from to (before rows 0) ≡ copied from to
+  enough_copied rows least =
+      let cell = λ (p : ℕ → ℕ → Bool) (r c : ℕ). cond (p r c) (overlaid (from.at r c) (to.at r c)) (to.at r c) in
+      same_contents (copied_where from to (before rows 0)) (copied from to) refl refl (λ r c.
+      let alike = λ (e : (before rows 0 r c ≡ true) ⊎ (from.at r c ≡ hole)). ap (λ v. cond (within to.rows to.places r c) v hole) (same_cell (before rows 0) (λ r c. true) r c e) in
+      elim (cases_lt r rows) [
+        | inl h ↦ alike (inl (before_end rows r c h))
+        | inr h ↦ elim (cases_lt r to.rows) [
+          | inl l ↦ alike (inr (hole_is (from.at r c) (from.beyond r c (not_within_row from.rows from.places r c (omega (arith, least))))))
+          | inr o ↦
+              let out = not_within_row to.rows to.places r c o in
+              ap (λ b. cond b (cell (before rows 0) r c) hole) out ∙ sym (ap (λ b. cond b (cell (λ r c. true) r c) hole) out)
+        ]
       ])

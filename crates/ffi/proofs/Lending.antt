@@ -1,6 +1,6 @@
 -- An image's contents in lent memory without marks.
-use Rattle.std.specs.Prelude.{nat_le}
-use Rattle.std.proofs.Common.{◌≡◌, ℕ, ◌+◌, ◌*◌, true, false, eqb, min, List, length, take, get_or, refl, ap, ◌∙◌, arith, inl, inr, get_or-take, length-take}
+use Rattle.std.specs.Prelude.{nat_le, cond}
+use Rattle.std.proofs.Common.{◌≡◌, ℕ, ◌+◌, ◌*◌, true, false, eqb, min, List, length, take, get_or, refl, sym, ap, ◌∙◌, arith, inl, inr, get_or-take, length-take}
 use Rattle.std.proofs.lemmas.Bool.{cases_lt, and_left}
 use Rattle.std.proofs.lemmas.Bool.Decides.{nat_tests}
 use Rattle.std.proofs.lemmas.List.{get_or_past}
@@ -52,4 +52,18 @@ module _ {X : Type 0} (image : Contents X) where
             let fits : nat_le (image.rows * image.places) room ≡ true = grind (arith, nat_tests) in
             let on : sized image.rows image.places (take size symbols) (take size marks) ≡ true = grind (arith, nat_tests) in
             rw (on, fits) (whole_lent (take size symbols) (take size marks) (λ i. no_mark marks size i none)))
+      ]
+
+  -- room for the image's places and no more is as good as all of the room
+  pub room_enough : (size room : ℕ) → size ≡ min (image.rows * image.places) room → lent_contents size image ≡ lent_contents room image
+  room_enough size room e =
+      elim (cases_lt room (image.rows * image.places)) [
+        | inl h ↦ (
+            let few : nat_le (image.rows * image.places) size ≡ false = grind (arith, nat_tests) in
+            let none : nat_le (image.rows * image.places) room ≡ false = grind (arith, nat_tests) in
+            ap (λ b. cond b image nothing) (few ∙ sym none))
+        | inr h ↦ (
+            let enough : nat_le (image.rows * image.places) size ≡ true = grind (arith, nat_tests) in
+            let all : nat_le (image.rows * image.places) room ≡ true = grind (arith, nat_tests) in
+            ap (λ b. cond b image nothing) (enough ∙ sym all))
       ]

@@ -18,7 +18,8 @@ where
     ensures { T.Shelf.contents to.new ≡ copied (S.Shelf.contents from.now) (T.Shelf.contents to.old) }
 {
     let places = from.places();
-    for row in 0..from.rows() {
+    // No row is read that the other shelf has no room for: lent memory that is too small for an image has no rows.
+    for row in 0..from.rows().min(to.rows()) {
         for place in 0..places {
             if let Some(symbol) = from.get(row, place).symbol() {
                 let _ = to.put(row, place, symbol);

@@ -67,9 +67,10 @@ fn lent<'a, F: OwnSymbols>(image: &ImageShelf<'_, F>, memory: Memory<'a, F>) -> 
         .saturating_mul(places)
         .min(symbols.len())
         .min(marks.len());
+    let marks = &mut marks[..size];
     // Whatever the marks were: a hole in the image is a hole here.
     marks.fill(0);
-    let mut shelf = ArrayShelf::over(rows, places, &mut symbols[..size], &mut marks[..size]);
+    let mut shelf = ArrayShelf::over(rows, places, &mut symbols[..size], marks);
     copy(image, &mut shelf);
     shelf
 }

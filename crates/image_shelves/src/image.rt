@@ -56,6 +56,7 @@ impl<'a, F: OwnSymbols> Shelf for ImageShelf<'a, F> {
         image_places::<F>(self.bytes)
     }
 
+    #[inline(always)]
     fn get(&self, row: usize, place: usize) -> Got<F> {
         image_get::<F>(self.bytes, row, place)
     }

@@ -61,6 +61,8 @@ fn find_spot<F: CodedField>(bytes: &[u8], row: usize, place: usize) -> Option<Sp
     })
 }
 
+// Inlined, as the shelf's `get` is: a loop over the places of a row then reads the head once.
+#[inline(always)]
 pub fn image_get<F: CodedField>(bytes: &[u8], row: usize, place: usize) -> Got<F>
     ensures { result ≡ get_answer (image_contents F.CodedField.kind F.CodedField.width F.Field.algebra.size F.Field.symbol bytes.now) row place }
 {

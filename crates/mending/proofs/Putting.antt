@@ -16,6 +16,7 @@ use Rattle.rules.proofs.Rows.{Fitting, fitting}
 use Rattle.rules.proofs.Tables.{component_same, table_place}
 use Rattle.rows.specs.Cards.{Holds, partly}
 use Rattle.rows.proofs.Carding.{seen_put}
+use Rattle.mending.specs.declared.Damage.{Damage}
 use Rattle.mending.specs.declared.plans.Plan.{Plan}
 use Rattle.mending.specs.Plans.{flag, weight_of, Ready}
 use Rattle.mending.specs.Puts.{weighted_sum, worked, block_cells, row_cells, mended_below}
@@ -124,7 +125,7 @@ module _ {X A : Type 0} (F : Field A) (meaning : X → A) (sizes : Sizes) where
               (λ o. rw o (held.at fit r t ∙ rw o))
 
     -- rows mended one after the other
-    module _ (plan : Plan) (ready : Ready F s plan) (blocks : ℕ → ℕ → A) (w : Worked F s blocks) (row : ℕ) (h : row < k s + p s) (now : Contents X)
+    module _ (damage : Damage) (plan : Plan) (ready : Ready F s damage plan) (blocks : ℕ → ℕ → A) (w : Worked F s blocks) (row : ℕ) (h : row < k s + p s) (now : Contents X)
         (held : Holds F meaning sizes before (mended_below F meaning sizes blocks before row) now) where
       fit : fits F s ≡ true
       fit = ready.fit
@@ -172,19 +173,19 @@ module _ {X A : Type 0} (F : Field A) (meaning : X → A) (sizes : Sizes) where
             (λ q. beside (row + 1) r t refl (λ i. both_ways _ q (eq-eqb r row i)));
       }
 
-      module _ (weights : ℕ → A) (are : (source : ℕ) → source < k s + p s → weights source ≡ weight_of F (k s) (flag plan.choice.damage) plan row source) (off : sound F s row ≡ false)
+      module _ (weights : ℕ → A) (are : (source : ℕ) → source < k s + p s → weights source ≡ weight_of F (k s) (flag damage) plan row source) (off : sound F s row ≡ false)
           (after : Contents X) (put : Holds F meaning sizes now (row_cells F meaning sizes weights row now) after) where
-        term_is : (source t : ℕ) → source < k s + p s → F.mul (weights source) (element_at F meaning now source t) ≡ F.mul (weight_of F (k s) (flag plan.choice.damage) plan row source) (symbol_at F s source t)
+        term_is : (source t : ℕ) → source < k s + p s → F.mul (weights source) (element_at F meaning now source t) ≡ F.mul (weight_of F (k s) (flag damage) plan row source) (symbol_at F s source t)
         term_is source t l =
             ap (λ x. F.mul x (element_at F meaning now source t)) (are source l)
             ∙ by_cases (sound F s source)
-            (λ e. ap (λ c. F.mul (weight_of F (k s) (flag plan.choice.damage) plan row source) (symbol_or F.zer c)) (still source t e))
+            (λ e. ap (λ c. F.mul (weight_of F (k s) (flag damage) plan row source) (symbol_or F.zer c)) (still source t e))
             (λ e.
-            let z = no_weight_here F s plan ready row source h (inl off) l e in
+            let z = no_weight_here F s damage plan ready row source h (inl off) l e in
             ap (λ x. F.mul x (element_at F meaning now source t)) z ∙ zero-mul F _ ∙ sym (ap (λ x. F.mul x (symbol_at F s source t)) z ∙ zero-mul F _))
 
         block_made : (t : ℕ) → t < n s → worked F meaning sizes weights row now t ≡ table_block F (k s) blocks row t
-        block_made t l = sum_below F (k s + p s) _ _ (λ source o. term_is source t o) ∙ made F s plan ready blocks w row t h (inl off) l
+        block_made t l = sum_below F (k s + p s) _ _ (λ source o. term_is source t o) ∙ made F s damage plan ready blocks w row t h (inl off) l
 
         made_cell : (t : ℕ) → t < n s + m s
             → cond (ltb t (n s)) (symbol (worked F meaning sizes weights row now t)) (symbol (component F (n s) (worked F meaning sizes weights row now) (t - n s))) ≡ mended_cells F s blocks row t

@@ -58,21 +58,23 @@ pub record Planned {X : Type 0} (F : Field X) (k p : ℕ) (sound : ℕ → Bool)
   pub solves : (row i : ℕ) → row < k + p → i < p → used_by F k sound i ≡ true
       → sum_to F plan.choice.lost.count (λ b. F.mul (coefficient F i (slice_index plan.choice.lost.at b)) (weight_in F plan.weights row b)) ≡ share F k sound i row
 
+-- the lost data rows are below a bound
+abbrev pub LostBelow : ℕ → Plan → Type 0
+LostBelow bound plan = (b : ℕ) → b < plan.choice.lost.count → slice_index plan.choice.lost.at b < bound
+
 -- It is the plan for these sizes and this damage.
 pub record PlannedFor {X : Type 0} (F : Field X) (sizes : Sizes) (damage : Damage) (plan : Plan) : Type 0 where
   pub sizes_are : plan.choice.sizes ≡ sizes
   pub damage_is : plan.choice.damage ≡ damage
   pub planned : Planned F sizes.data_rows sizes.parity_rows (flag damage) plan
 
--- A state that the plan can mend: it fits, no more rows are not sound than there are parity rows, and the plan is for as many data rows and parity
--- rows, and for the rows that are sound.
-pub record Ready {X : Type 0} (F : Field X) (s : State X) (plan : Plan) : Type 0 where
+-- A state that the plan can mend: it fits, no more rows are not sound than there are parity rows, the damage says which rows are sound, and the plan is
+-- for as many data rows and parity rows, and for these. Which sizes and damage the plan itself holds is not asked.
+pub record Ready {X : Type 0} (F : Field X) (s : State X) (damage : Damage) (plan : Plan) : Type 0 where
   pub fit : fits F s ≡ true
   pub few : unsound_count F s ≤ p s
-  pub data_rows_are : plan.choice.sizes.data_rows ≡ k s
-  pub parity_rows_are : plan.choice.sizes.parity_rows ≡ p s
-  pub flags_are : (row : ℕ) → row < k s + p s → flag plan.choice.damage row ≡ sound F s row
-  pub planned : Planned F (k s) (p s) (flag plan.choice.damage) plan
+  pub flags_are : (row : ℕ) → row < k s + p s → flag damage row ≡ sound F s row
+  pub planned : Planned F (k s) (p s) (flag damage) plan
 
 -- the weight of row `source` in a lost data row, or in a parity row that is worked from the data rows
 abbrev pub weight_of : {X : Type 0} → Field X → ℕ → (ℕ → Bool) → Plan → ℕ → ℕ → X

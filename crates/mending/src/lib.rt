@@ -153,43 +153,56 @@ impl WorkedRow {
 }
 
 // The lowest place of the block where parity row i is sound and does not fit the data rows as worked. A row that is used fits, since they are worked from it.
-fn row_misfit<S: Shelf>(group: &Group<'_, S>, plan: &Plan, i: usize) -> Option<usize>
+fn row_misfit<S: Shelf>(
+    group: &Group<'_, S>,
+    damage: &Damage,
+    plan: &Plan,
+    i: usize,
+) -> Option<usize>
 where
     S::Symbol: Field,
     ensures { let F = S.Symbol.Field.algebra in let s = shown S.Shelf.contents S.Symbol.Field.meaning group.now in
-        Ready F s plan.now → i < group.now.sizes.parity_rows → (blocks : ℕ → ℕ → Below S.Symbol.Field.size) → Worked F s blocks → result ≡ lowest group.now.sizes.block_length (worked_misfit F s blocks i) }
+        Ready F s damage.now plan.now → i < group.now.sizes.parity_rows → (blocks : ℕ → ℕ → Below S.Symbol.Field.size) → Worked F s blocks → result ≡ lowest group.now.sizes.block_length (worked_misfit F s blocks i) }
 {
     let row = group.sizes.parity_row(i);
-    if !plan.is_sound(row) || plan.is_used(i) {
+    if !damage.is_sound(row) || plan.is_used(group.sizes, damage, i) {
         return None;
     }
-    plan.worked_row::<S::Symbol>(row).first_difference(group)
+    plan.worked_row::<S::Symbol>(group.sizes, damage, row)
+        .first_difference(group)
 }
 
 // The first place of the first sound parity row that does not fit the data rows as worked, by parity row and then by place of the block. The parity row
 // is named by its index i, not by its row k + i.
-pub fn first_worked_misfit<S: Shelf>(group: &Group<'_, S>, plan: &Plan) -> Option<(usize, usize)>
+pub fn first_worked_misfit<S: Shelf>(
+    group: &Group<'_, S>,
+    damage: &Damage,
+    plan: &Plan,
+) -> Option<(usize, usize)>
 where
     S::Symbol: Field,
     ensures { let F = S.Symbol.Field.algebra in let s = shown S.Shelf.contents S.Symbol.Field.meaning group.now in
-        Ready F s plan.now → (blocks : ℕ → ℕ → Below S.Symbol.Field.size) → Worked F s blocks → result ≡ lowest_pair group.now.sizes.parity_rows group.now.sizes.block_length (worked_misfit F s blocks) }
+        Ready F s damage.now plan.now → (blocks : ℕ → ℕ → Below S.Symbol.Field.size) → Worked F s blocks → result ≡ lowest_pair group.now.sizes.parity_rows group.now.sizes.block_length (worked_misfit F s blocks) }
 {
-    (0..group.sizes.parity_rows).find_map(|i| row_misfit(group, plan, i).map(|place| (i, place)))
+    (0..group.sizes.parity_rows).find_map(|i| {
+        row_misfit(group, damage, plan, i).map(|place| (i, place))
+    })
 }
 
 // Puts every row that is not sound, block and card: lost data rows as worked, and parity rows from all data rows.
-pub fn put_rows<S: Shelf>(group: &mut GroupMut<'_, S>, plan: &Plan)
+pub fn put_rows<S: Shelf>(group: &mut GroupMut<'_, S>, damage: &Damage, plan: &Plan)
 where
     S::Symbol: Field,
     ensures same { SameGroup group.old group.new }
     ensures mended { let F = S.Symbol.Field.algebra in let meaning = S.Symbol.Field.meaning in let s = seen meaning group.old.sizes (S.Shelf.contents group.old.shelf.now) in
-        Ready F s plan.now → (blocks : ℕ → ℕ → Below S.Symbol.Field.size) → Worked F s blocks → seen_contents meaning (S.Shelf.contents group.new.shelf.now) ≡ (with_cells s (mended_cells F s blocks)).contents }
+        Ready F s damage.now plan.now → (blocks : ℕ → ℕ → Below S.Symbol.Field.size) → Worked F s blocks → seen_contents meaning (S.Shelf.contents group.new.shelf.now) ≡ (with_cells s (mended_cells F s blocks)).contents }
     ensures puts { let F = S.Symbol.Field.algebra in let s = seen S.Symbol.Field.meaning group.old.sizes (S.Shelf.contents group.old.shelf.now) in
-        Ready F s plan.now → PutsAt S.Shelf.stores group.old.shelf.now (mended_places F s (group.old.sizes.data_rows + group.old.sizes.parity_rows)) group.new.shelf.now }
+        Ready F s damage.now plan.now → PutsAt S.Shelf.stores group.old.shelf.now (mended_places F s (group.old.sizes.data_rows + group.old.sizes.parity_rows)) group.new.shelf.now }
 {
     for row in 0..group.sizes.rows() {
-        if !plan.is_sound(row) {
-            plan.worked_row::<S::Symbol>(row).put(group);
+        if !damage.is_sound(row) {
+            let worked = plan.worked_row::<S::Symbol>(group.sizes, damage, row);
+            worked.put(group);
         }
     }
 }

@@ -9,7 +9,6 @@ use crate::{Damage, WorkedRow};
 use algebra::Field;
 use rows::numbers_of;
 use rules::Sizes;
-use std::array;
 
 // Which data rows are lost, and the sound parity rows, of which the lowest stand in for them.
 // That the sizes keep their limits (`RowsFit`) stays a premise of the clauses: calls make a plan only of a tray that fits, and a type that kept them would
@@ -64,13 +63,10 @@ impl Choice {
         }
     }
 
-    // The weights of one row in the lost data rows, and none of a row that is not there.
+    // The weights of one row in the lost data rows.
     fn working<F: Field>(&self, row: usize) -> [usize; 4]
         ensures { WorkedBy F.Field.algebra self.now row result }
     {
-        if row >= self.sizes.rows() {
-            return [0; 4];
-        }
         let system = System {
             rows: self.used.at,
             columns: self.lost.at.map(|j| j.saturating_add(4)),
@@ -95,7 +91,7 @@ impl Plan {
     ghost use Rattle.algebra.specs.Theorems.{coefficient as coefficient_of};
     ghost use Rattle.rules.specs.Search.{counted};
     ghost use Rattle.rules.specs.States.{State, fits, unsound_count};
-    ghost use Rattle.mending.specs.Plans.{flag, Gathered, RowsFit, PlannedFor, Ready, WorkedBy, weight_in, weight_of};
+    ghost use Rattle.mending.specs.Plans.{flag, Gathered, RowsFit, LostBelow, PlannedFor, Ready, weight_in, weight_of};
     ghost use Rattle.mending.specs.Stored.{stored as stored_at};
 
     // How the lost data rows follow from the sound ones and from as many parity rows, the lowest that are sound.
@@ -104,14 +100,14 @@ impl Plan {
             → counted sizes.data_rows (λ j. not (flag damage j)) ≤ counted sizes.parity_rows (λ i. flag damage (sizes.data_rows + i))
             → PlannedFor F.Field.algebra sizes damage result }
         ensures ready { (s : State (Below F.Field.size)) → s.sizes ≡ sizes → fits F.Field.algebra s ≡ true → unsound_count F.Field.algebra s ≤ sizes.parity_rows → Gathered F.Field.algebra s damage
-            → Ready F.Field.algebra s result }
+            → Ready F.Field.algebra s damage result }
     {
         let choice = Choice::new(sizes, damage);
-        let weights = array::from_fn(
-            |row|
-                ensures { WorkedBy F.Field.algebra choice row result }
-            { choice.working::<F>(row) },
-        );
+        let mut weights = [[0; 4]; 68];
+        // Only the tray's rows: to work all 68 would cost a small tray as much as the largest.
+        for (row, worked) in weights[..sizes.rows().min(68)].iter_mut().enumerate() {
+            *worked = choice.working::<F>(row);
+        }
         Plan { choice, weights }
     }
 
@@ -128,10 +124,10 @@ impl Plan {
 
     // The weight of a row in a sum over the lost data rows, by the coefficients of parity row i.
     fn through_lost<F: Field>(&self, i: usize, row: usize) -> F
-        ensures { RowsFit F.Field.algebra self.now.choice.sizes → i < 4
+        ensures { i < 4 → ((b : ℕ) → b < self.now.choice.lost.count → (slice_index self.now.choice.lost.at b < 64) × (4 + slice_index self.now.choice.lost.at b < F.Field.algebra.size))
             → F.Field.meaning result ≡ sum_to F.Field.algebra self.now.choice.lost.count (λ b. F.Field.algebra.mul (coefficient_of F.Field.algebra i (slice_index self.now.choice.lost.at b)) (weight_in F.Field.algebra self.now.weights row b)) }
     {
-        let lost = self.choice.lost;
+        let lost = &self.choice.lost;
         let mut sum: F = F::zero();
         for (b, j) in lost.at[..lost.count].iter().enumerate() {
             let coefficient: F = rows::coefficient(i, *j);
@@ -141,12 +137,12 @@ impl Plan {
     }
 
     // The weight of a row in parity row i, worked from the data rows: its own coefficient, and its part in the lost data rows.
-    fn parity_weight<F: Field>(&self, i: usize, row: usize) -> F
-        ensures { RowsFit F.Field.algebra self.now.choice.sizes → i < 4
-            → F.Field.meaning result ≡ weight_of F.Field.algebra self.now.choice.sizes.data_rows (flag self.now.choice.damage) self.now (self.now.choice.sizes.data_rows + i) row }
+    fn parity_weight<F: Field>(&self, sizes: Sizes, damage: &Damage, i: usize, row: usize) -> F
+        ensures { RowsFit F.Field.algebra sizes → LostBelow sizes.data_rows self.now → i < 4
+            → F.Field.meaning result ≡ weight_of F.Field.algebra sizes.data_rows (flag damage.now) self.now (sizes.data_rows + i) row }
     {
         let through: F = self.through_lost(i, row);
-        let own = if row < self.choice.sizes.data_rows && self.choice.damage.is_sound(row) {
+        let own = if row < sizes.data_rows && damage.is_sound(row) {
             rows::coefficient::<F>(i, row)
         } else {
             F::zero()
@@ -154,34 +150,35 @@ impl Plan {
         own.sum(through)
     }
 
-    // A lost data row, or a parity row, with the weights of the tray's rows in it.
-    pub(crate) fn worked_row<F: Field>(&self, row: usize) -> WorkedRow
+    // A lost data row, or a parity row, with the weights of the tray's rows in it. By the sizes and the damage of the tray, whatever the plan was made for.
+    pub(crate) fn worked_row<F: Field>(
+        &self,
+        sizes: Sizes,
+        damage: &Damage,
+        row: usize,
+    ) -> WorkedRow
         ensures row { result.row ≡ row }
-        ensures weights { RowsFit F.Field.algebra self.now.choice.sizes → row < self.now.choice.sizes.data_rows + self.now.choice.sizes.parity_rows
-            → (source : ℕ) → source < self.now.choice.sizes.data_rows + self.now.choice.sizes.parity_rows → stored_at F.Field.algebra result.weights source ≡ weight_of F.Field.algebra self.now.choice.sizes.data_rows (flag self.now.choice.damage) self.now row source }
+        ensures weights { RowsFit F.Field.algebra sizes → LostBelow sizes.data_rows self.now → row < sizes.data_rows + sizes.parity_rows
+            → (source : ℕ) → source < sizes.data_rows + sizes.parity_rows → stored_at F.Field.algebra result.weights source ≡ weight_of F.Field.algebra sizes.data_rows (flag damage.now) self.now row source }
     {
-        let rows = self.choice.sizes.rows();
-        let weights = if row < self.choice.sizes.data_rows {
-            let rank = row - self.choice.damage.sound_among(0, row);
+        let rows = sizes.rows();
+        let weights = if row < sizes.data_rows {
+            let rank = row - damage.sound_among(0, row);
             numbers_of(rows, |source| self.weight::<F>(source, rank))
         } else {
-            let i = row - self.choice.sizes.data_rows;
-            numbers_of(rows, |source| self.parity_weight::<F>(i, source))
+            let i = row - sizes.data_rows;
+            numbers_of(
+                rows,
+                |source| self.parity_weight::<F>(sizes, damage, i, source),
+            )
         };
         WorkedRow { row, weights }
     }
 
-    pub(crate) fn is_sound(&self, row: usize) -> bool
-        ensures { result ≡ flag self.now.choice.damage row }
-    {
-        self.choice.damage.is_sound(row)
-    }
-
     // Whether parity row i, if it is sound, is one of those from which the lost data rows are worked.
-    pub(crate) fn is_used(&self, i: usize) -> bool
-        ensures { self.now.choice.sizes.data_rows + i ≤ 68 → result ≡ nat_lt (counted i (λ h. flag self.now.choice.damage (self.now.choice.sizes.data_rows + h))) self.now.choice.lost.count }
+    pub(crate) fn is_used(&self, sizes: Sizes, damage: &Damage, i: usize) -> bool
+        ensures { sizes.data_rows + i ≤ 68 → result ≡ nat_lt (counted i (λ h. flag damage.now (sizes.data_rows + h))) self.now.choice.lost.count }
     {
-        let choice = self.choice;
-        choice.damage.sound_among(choice.sizes.data_rows, i) < choice.lost.count
+        damage.sound_among(sizes.data_rows, i) < self.choice.lost.count
     }
 }

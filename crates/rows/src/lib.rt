@@ -52,11 +52,11 @@ pub fn numbers_of<F: Field, E: Fn(usize) -> F, const N: usize>(
     ensures numbers { (i : ℕ) → i < count → i < N → (x : F) × E.post element i x × (slice_index result i ≡ F.Field.algebra.number (F.Field.meaning x)) }
     ensures zeros { (i : ℕ) → count ≤ i → i < N → slice_index result i ≡ 0 }
 {
-    std::array::from_fn(
-        |i|
-            requires { E.pre element i }
-        { if i < count { element(i).number() } else { 0 } },
-    )
+    let mut numbers = [0; N];
+    for (i, number) in numbers[..count.min(N)].iter_mut().enumerate() {
+        *number = element(i).number();
+    }
+    numbers
 }
 
 // The coefficient of parity row i and data row j, where the field has their elements. That it has them, and above that no sum of sizes overflows, are premises

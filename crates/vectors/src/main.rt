@@ -56,17 +56,13 @@ fn products<F: Field>(_line: usize, numbers: &[usize]) -> bool {
     }
 }
 
-fn read_table(rt: &HostRuntime, name: &str) -> anyhow::Result<Vec<Vec<usize>>> {
-    let text = fs::read_to_string(rt, name)?;
-    let mut table = Vec::new(rt.alloc());
-    for line in text.lines() {
-        let mut numbers = Vec::new(rt.alloc());
-        for word in line.split_whitespace() {
-            numbers.push(word.parse::<usize>()?)?;
-        }
-        table.push(numbers)?;
+// The numbers on a line of a table.
+fn numbers_on(rt: &HostRuntime, line: &str) -> anyhow::Result<Vec<usize>> {
+    let mut numbers = Vec::new(rt.alloc());
+    for word in line.split_whitespace() {
+        numbers.push(word.parse::<usize>()?)?;
     }
-    Ok(table)
+    Ok(numbers)
 }
 
 fn show<A: Fn(usize, &[usize]) -> bool + Drop>(
@@ -76,13 +72,17 @@ fn show<A: Fn(usize, &[usize]) -> bool + Drop>(
 ) -> anyhow::Result<()>
     requires { A.IsAlwaysCallable agrees }
 {
-    let table = read_table(rt, name)?;
-    let agreed = table
-        .iter()
-        .enumerate()
-        .filter(|(line, numbers)| agrees(*line, numbers))
-        .count();
-    println!(rt; "{name} {agreed} of {} agree", table.len())?;
+    let text = fs::read_to_string(rt, name)?;
+    let mut agreed: usize = 0;
+    let mut lines: usize = 0;
+    // One line at a time: the numbers of all lines take several times the text's memory.
+    for (index, line) in text.lines().enumerate() {
+        if agrees(index, &numbers_on(rt, line)?) {
+            agreed = agreed.saturating_add(1);
+        }
+        lines = index.saturating_add(1);
+    }
+    println!(rt; "{name} {agreed} of {lines} agree")?;
     Ok(())
 }
 

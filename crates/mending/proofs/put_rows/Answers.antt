@@ -21,6 +21,7 @@ loop-row-preserved g c =
     let meaning = g.S.Symbol.Field.meaning in
     let contents = g.S.Shelf.contents in
     let sizes = c.args.group.now.sizes in
+    let damage = c.args.damage.now in
     let plan = c.args.plan.now in
     let before = contents c.args.group.now.shelf.now in
     let now = contents c.loop-row.group.shelf.now in
@@ -32,22 +33,22 @@ loop-row-preserved g c =
       | then-not-is_sound v ↦ record {
         same = rw v.group-is (record { shelf = v.put.ensures.same.shelf ∙ same.shelf; sizes = v.put.ensures.same.sizes ∙ same.sizes });
         held = λ ready blocks w.
-            let weights = stored F v.worked_row.result.weights in
-            rw v.group-is (put_next F meaning sizes before plan ready blocks w row h now (c.loop-row.invariant.held ready blocks w) weights
-            (weights_here F s plan ready row weights v.worked_row.ensures.weights h)
-            (sym (flag_is F s plan ready row h) ∙ sym c.is_sound.ensures ∙ v.if-not-is_sound.true) _
-            (subst (λ (r : ℕ). r < sizes.data_rows + sizes.parity_rows → Holds F meaning sizes now (row_cells F meaning sizes weights r now) (contents v.put.new.group.shelf.now)) v.worked_row.ensures.row (rw same.sizes at v.put.ensures.cells) h));
+            let weights = stored F v.worked_row-worked.result.weights in
+            rw v.group-is (put_next F meaning sizes before damage plan ready blocks w row h now (c.loop-row.invariant.held ready blocks w) weights
+            (weights_here F s damage plan ready row weights (rw same.sizes at v.worked_row-worked.ensures.weights) h)
+            (sym (flag_is F s damage plan ready row h) ∙ sym c.is_sound.ensures ∙ v.if-not-is_sound.true) _
+            (subst (λ (r : ℕ). r < sizes.data_rows + sizes.parity_rows → Holds F meaning sizes now (row_cells F meaning sizes weights r now) (contents v.put.new.group.shelf.now)) v.worked_row-worked.ensures.row (rw same.sizes at v.put.ensures.cells) h));
         puts = λ ready.
-            let off = sym (flag_is F s plan ready row h) ∙ sym c.is_sound.ensures ∙ v.if-not-is_sound.true in
+            let off = sym (flag_is F s damage plan ready row h) ∙ sym c.is_sound.ensures ∙ v.if-not-is_sound.true in
             let f = fitting F s ready.fit in
-            let puts = (rw (same.sizes, v.worked_row.ensures.row) at v.put.ensures.puts) (omega (arith, f.n_high, f.m_high)) in
+            let puts = (rw (same.sizes, v.worked_row-worked.ensures.row) at v.put.ensures.puts) (omega (arith, f.n_high, f.m_high)) in
             rw v.group-is (row_mended g.S.Shelf.stores F s row off (c.loop-row.invariant.puts ready) puts);
       }
       | else-not-is_sound v ↦ record {
         same = rw v.group-is same;
         held = λ ready blocks w.
-            rw v.group-is (sound_next F meaning sizes before plan ready blocks w row h now (c.loop-row.invariant.held ready blocks w) (sym (flag_is F s plan ready row h) ∙ sym c.is_sound.ensures ∙ v.if-not-is_sound.false));
-        puts = λ ready. rw v.group-is (sound_passed g.S.Shelf.stores F s row (sym (flag_is F s plan ready row h) ∙ sym c.is_sound.ensures ∙ v.if-not-is_sound.false) (c.loop-row.invariant.puts ready));
+            rw v.group-is (sound_next F meaning sizes before damage plan ready blocks w row h now (c.loop-row.invariant.held ready blocks w) (sym (flag_is F s damage plan ready row h) ∙ sym c.is_sound.ensures ∙ v.if-not-is_sound.false));
+        puts = λ ready. rw v.group-is (sound_passed g.S.Shelf.stores F s row (sym (flag_is F s damage plan ready row h) ∙ sym c.is_sound.ensures ∙ v.if-not-is_sound.false) (c.loop-row.invariant.puts ready));
       }
     ]
 

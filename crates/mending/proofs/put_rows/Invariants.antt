@@ -18,6 +18,6 @@ invariant-loop-row g l =
     let before = g.S.Shelf.contents l.initial.group.shelf.now in
     let s = seen meaning sizes before in record {
       same : SameGroup l.initial.group l.group;
-      held : Ready F s l.plan → (blocks : ℕ → ℕ → Below g.S.Symbol.Field.size) → Worked F s blocks → Holds F meaning sizes before (mended_below F meaning sizes blocks before l.row) (g.S.Shelf.contents l.group.shelf.now);
-      puts : Ready F s l.plan → PutsAt g.S.Shelf.stores l.initial.group.shelf.now (mended_places F s l.row) l.group.shelf.now;
+      held : Ready F s l.damage l.plan → (blocks : ℕ → ℕ → Below g.S.Symbol.Field.size) → Worked F s blocks → Holds F meaning sizes before (mended_below F meaning sizes blocks before l.row) (g.S.Shelf.contents l.group.shelf.now);
+      puts : Ready F s l.damage l.plan → PutsAt g.S.Shelf.stores l.initial.group.shelf.now (mended_places F s l.row) l.group.shelf.now;
     }

@@ -16,16 +16,17 @@ pub returns-then-not-is_sound : goal.returns-then-not-is_sound
 returns-then-not-is_sound g c ready h blocks w =
     let F = g.S.Symbol.Field.algebra in
     let s = shown g.S.Shelf.contents g.S.Symbol.Field.meaning c.args.group.now in
+    let damage = c.args.damage.now in
     let plan = c.args.plan.now in
     let sizes = c.args.group.now.sizes in
     let f = fitting F s ready.fit in
     let at : c.parity_row-row.result ≡ sizes.data_rows + c.args.i = omega (arith, c.parity_row-row.ensures, f.k_high, f.p_high, h) in
-    let says = sym (flag_is F s plan ready (sizes.data_rows + c.args.i) (omega arith)) ∙ ap (flag plan.choice.damage) (sym at) ∙ sym c.is_sound.ensures in
+    let says = sym (flag_is F s damage plan ready (sizes.data_rows + c.args.i) (omega arith)) ∙ ap (flag damage) (sym at) ∙ sym c.is_sound.ensures in
     elim c.then-not-is_sound.branch [
-      | then-not-is_sound-via-then-not-is_sound v ↦ sym (misfit_none F s plan ready blocks w c.args.i (says ∙ v.if-not-is_sound.true))
+      | then-not-is_sound-via-then-not-is_sound v ↦ sym (misfit_none F s damage plan ready blocks w c.args.i (says ∙ v.if-not-is_sound.true))
       | then-not-is_sound-via-else-not-is_sound+then-is_used v ↦
-          let few : plan.choice.sizes.data_rows + c.args.i ≤ 68 = omega (arith, ready.data_rows_are, f.k_high, f.p_high) in
-          sym (misfit_used F s plan ready blocks w c.args.i h (says ∙ v.if-not-is_sound.false) (sym (v.is_used.ensures few) ∙ v.if-is_used.true))
+          let few : sizes.data_rows + c.args.i ≤ 68 = omega (arith, f.k_high, f.p_high) in
+          sym (misfit_used F s damage plan ready blocks w c.args.i h (says ∙ v.if-not-is_sound.false) (sym (v.is_used.ensures few) ∙ v.if-is_used.true))
     ]
 
 pub returns : goal.returns
@@ -36,14 +37,15 @@ returns g c ready h blocks w =
     let sizes = group.sizes in
     let held = g.S.Shelf.contents group.shelf.now in
     let s = shown g.S.Shelf.contents meaning group in
+    let damage = c.args.damage.now in
     let plan = c.args.plan.now in
     let f = fitting F s ready.fit in
     let weights : ℕ → _ = stored F c.worked_row.result.weights in
     let at : c.parity_row-row.result ≡ sizes.data_rows + c.args.i = omega (arith, c.parity_row-row.ensures, f.k_high, f.p_high, h) in
     let on : sound F s (sizes.data_rows + c.args.i) ≡ true =
-    sym (flag_is F s plan ready (sizes.data_rows + c.args.i) (omega arith)) ∙ ap (flag plan.choice.damage) (sym at) ∙ sym c.is_sound.ensures ∙ c.if-not-is_sound.false in
+    sym (flag_is F s damage plan ready (sizes.data_rows + c.args.i) (omega arith)) ∙ ap (flag damage) (sym at) ∙ sym c.is_sound.ensures ∙ c.if-not-is_sound.false in
     c.first_difference.ensures
     ∙ ap (λ (row : ℕ). lowest sizes.block_length (λ place. differ F (weighted_sum F meaning held weights (sizes.data_rows + sizes.parity_rows) place) (element_at F meaning held row place))) (c.worked_row.ensures.row ∙ at)
-    ∙ misfit_found F s plan ready blocks w c.args.i h on weights
+    ∙ misfit_found F s damage plan ready blocks w c.args.i h on weights
     (λ source o.
-    weights_here F s plan ready c.parity_row-row.result weights c.worked_row.ensures.weights (omega arith) source o ∙ ap (λ (r : ℕ). weight_of F sizes.data_rows (flag plan.choice.damage) plan r source) at)
+    weights_here F s damage plan ready c.parity_row-row.result weights c.worked_row.ensures.weights (omega arith) source o ∙ ap (λ (r : ℕ). weight_of F sizes.data_rows (flag damage) plan r source) at)

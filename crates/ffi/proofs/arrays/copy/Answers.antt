@@ -1,7 +1,7 @@
-use Rattle.std.proofs.Common.{◌≡◌, ℕ, sym, ap, ◌∙◌, arith}
+use Rattle.std.proofs.Common.{◌≡◌, ℕ, min, sym, ap, ◌∙◌, arith}
 use Rattle.shelves.specs.Contents.{symbol_of, after_put}
 use Rattle.ffi.specs.Copies.{copied_where, before}
-use Rattle.ffi.proofs.Copying.{none_copied, put_copied, skip_copied, row_copied, all_copied, cell_symbol, cell_hole}
+use Rattle.ffi.proofs.Copying.{none_copied, put_copied, skip_copied, row_copied, enough_copied, cell_symbol, cell_hole}
 use Rattle.ffi.proofs.arrays.copy.Goals as goal
 use Rattle.ffi.proofs.arrays.copy.Goals.{in-Some, in_default}
 
@@ -35,5 +35,5 @@ pub returns : goal.returns
 returns g c =
     let from = g.S.Shelf.contents c.args.from.now in
     let to = g.T.Shelf.contents c.args.to.now in
-    let end : c.loop-row.row ≡ from.rows = omega (arith, c.loop-row-test.false, c.loop-row.auto.row-end, c.rows-row-end.ensures) in
-    c.loop-row.invariant ∙ ap (λ (v : ℕ). copied_where from to (before v 0)) end ∙ all_copied from to
+    let end : c.loop-row.row ≡ min from.rows to.rows = omega (arith, c.loop-row-test.false, c.loop-row.auto.row-end, c.min-row-end.ensures, c.rows.ensures, c.rows-2.ensures) in
+    c.loop-row.invariant ∙ enough_copied from to c.loop-row.row end

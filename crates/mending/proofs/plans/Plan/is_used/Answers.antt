@@ -5,5 +5,4 @@ use Rattle.mending.proofs.plans.Plan.is_used.Goals as goal
 
 pub returns : goal.returns
 returns c h =
-    let choice = c.args.self.now.choice in
-    ap (λ n. ltb n choice.lost.count) (c.sound_among.ensures ∙ counted_from (flag choice.damage) choice.sizes.data_rows c.args.i (omega arith))
+    ap (λ n. ltb n c.args.self.now.choice.lost.count) (c.sound_among.ensures ∙ counted_from (flag c.args.damage.now) c.args.sizes.data_rows c.args.i (omega arith))

@@ -8,23 +8,23 @@ use Rattle.mending.proofs.plans.Plan.worked_row.Goals as goal
 
 pub overflow_sub-rank : goal.overflow_sub-rank
 overflow_sub-rank g c =
-    let sound = flag c.args.self.now.choice.damage in
+    let sound = flag c.args.damage.now in
     omega (arith, c.sound_among.ensures, counted_first sound c.args.row (omega arith), counted_not c.args.row sound)
 
-pub returns-then-row-self-clause-weights : goal.returns-then-row-self-clause-weights
-returns-then-row-self-clause-weights g c fit h source l =
+pub returns-then-row-sizes-clause-weights : goal.returns-then-row-sizes-clause-weights
+returns-then-row-sizes-clause-weights g c fit below h source l =
     let F = g.F.Field.algebra in
     let plan = c.args.self.now in
-    let sound = flag plan.choice.damage in
-    let rank : c.args.row - c.sound_among.result ≡ counted c.args.row (lost F plan.choice.sizes.data_rows sound) =
+    let sound = flag c.args.damage.now in
+    let rank : c.args.row - c.sound_among.result ≡ counted c.args.row (lost F c.args.sizes.data_rows sound) =
     omega (arith, c.sound_among.ensures, counted_first sound c.args.row (omega arith), counted_not c.args.row sound) in
     let at = c.numbers_of-weights.ensures.numbers source (omega (arith, c.rows-rows.ensures, fit.few, fit.four)) (omega (arith, fit.few, fit.four)) in
     let x = at.1 in
-    rw (lt-ltb c.args.row plan.choice.sizes.data_rows c.if-row-self.true) (element_numbered F _ _ (sym at.2) ∙ search rules ∙ ap (weight_in F plan.weights source) rank)
+    rw (lt-ltb c.args.row c.args.sizes.data_rows c.if-row-sizes.true) (element_numbered F _ _ (sym at.2) ∙ search rules ∙ ap (weight_in F plan.weights source) rank)
 
-pub returns-else-row-self-clause-weights : goal.returns-else-row-self-clause-weights
-returns-else-row-self-clause-weights g c fit h source l =
+pub returns-else-row-sizes-clause-weights : goal.returns-else-row-sizes-clause-weights
+returns-else-row-sizes-clause-weights g c fit below h source l =
     let F = g.F.Field.algebra in
-    let at = c.numbers_of-weights-else-row-self.ensures.numbers source (omega (arith, c.rows-rows.ensures, fit.few, fit.four)) (omega (arith, fit.few, fit.four)) in
+    let at = c.numbers_of-weights-else-row-sizes.ensures.numbers source (omega (arith, c.rows-rows.ensures, fit.few, fit.four)) (omega (arith, fit.few, fit.four)) in
     let x = at.1 in
     element_numbered F _ _ (sym at.2) ∙ search rules
