@@ -18,7 +18,7 @@ use Rattle.rows.specs.Cards.{Holds, partly}
 use Rattle.rows.proofs.Carding.{seen_put}
 use Rattle.mending.specs.declared.Damage.{Damage}
 use Rattle.mending.specs.declared.plans.Plan.{Plan}
-use Rattle.mending.specs.Plans.{flag, weight_of, Ready}
+use Rattle.mending.specs.Plans.{flag, weight_of, ReadyFor}
 use Rattle.mending.specs.Puts.{weighted_sum, worked, block_cells, row_cells, mended_below}
 use Rattle.mending.proofs.Stating.{made, no_weight_here}
 
@@ -125,7 +125,7 @@ module _ {X A : Type 0} (F : Field A) (meaning : X → A) (sizes : Sizes) where
               (λ o. rw o (held.at fit r t ∙ rw o))
 
     -- rows mended one after the other
-    module _ (damage : Damage) (plan : Plan) (ready : Ready F s damage plan) (blocks : ℕ → ℕ → A) (w : Worked F s blocks) (row : ℕ) (h : row < k s + p s) (now : Contents X)
+    module _ (damage : Damage) (plan : Plan) (ready : ReadyFor F s damage plan) (blocks : ℕ → ℕ → A) (w : Worked F s blocks) (row : ℕ) (h : row < k s + p s) (now : Contents X)
         (held : Holds F meaning sizes before (mended_below F meaning sizes blocks before row) now) where
       fit : fits F s ≡ true
       fit = ready.fit

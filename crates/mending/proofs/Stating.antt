@@ -17,7 +17,7 @@ use Rattle.rules.proofs.Tables.{same_differ, combination_same, block_data, block
 use Rattle.rules.proofs.Working.{bad, good, worked_unique}
 use Rattle.mending.specs.declared.Damage.{Damage}
 use Rattle.mending.specs.declared.plans.Plan.{Plan}
-use Rattle.mending.specs.Plans.{flag, Gathered, lost, used_by, weight_of, RowsFit, LostBelow, Planned, PlannedFor, Ready}
+use Rattle.mending.specs.Plans.{flag, Gathered, lost, used_by, weight_of, RowsFit, LostBelow, Planned, PlannedFor, Ready, ReadyFor}
 use Rattle.mending.proofs.Weighing.{data_symbol, data_sound, data_lost, combined, used_fits, no_weight}
 
 rows_fit : {X : Type 0} (F : Field X) (s : State X) → fits F s ≡ true → RowsFit F s.sizes
@@ -40,19 +40,33 @@ module _ {X : Type 0} (F : Field X) (s : State X) (fit : fits F s ≡ true) (few
   flags_of : (row : ℕ) → row < k s + p s → flag damage row ≡ sound F s row
   flags_of = let f = fitting F s fit in gathered.rows (omega (arith, f.p_high))
 
-  pub gathered_ready : (plan : Plan) → Planned F (k s) (p s) (flag damage) plan → Ready F s damage plan
+  pub gathered_ready : (plan : Plan) → Planned F (k s) (p s) (flag damage) plan → ReadyFor F s damage plan
   gathered_ready plan planned = record { fit = fit; few = few; flags_are = flags_of; planned = planned }
 
-  pub planned_ready : (sizes : Sizes) (plan : Plan) → s.sizes ≡ sizes
-      → (RowsFit F sizes → counted sizes.data_rows (λ j. not (flag damage j)) ≤ counted sizes.parity_rows (λ i. flag damage (sizes.data_rows + i)) → PlannedFor F sizes damage plan)
-      → Ready F s damage plan
-  planned_ready sizes plan same plans =
-      let planned : PlannedFor F s.sizes damage plan =
-      subst (λ (z : Sizes). (RowsFit F z → counted z.data_rows (λ j. not (flag damage j)) ≤ counted z.parity_rows (λ i. flag damage (z.data_rows + i)) → PlannedFor F z damage plan)) (sym same) plans
-      (rows_fit F s fit) (enough_rows F s few damage flags_of) in
-      gathered_ready plan planned.planned
+  -- what was planned for sizes that are the state's
+  module _ (sizes : Sizes) (plan : Plan) (same : s.sizes ≡ sizes)
+      (plans : RowsFit F sizes → counted sizes.data_rows (λ j. not (flag damage j)) ≤ counted sizes.parity_rows (λ i. flag damage (sizes.data_rows + i)) → PlannedFor F sizes damage plan) where
+    planned_as_met : PlannedFor F s.sizes damage plan
+    planned_as_met =
+        subst (λ (z : Sizes). (RowsFit F z → counted z.data_rows (λ j. not (flag damage j)) ≤ counted z.parity_rows (λ i. flag damage (z.data_rows + i)) → PlannedFor F z damage plan)) (sym same) plans
+        (rows_fit F s fit) (enough_rows F s few damage flags_of)
 
-module _ {X : Type 0} (F : Field X) (s : State X) (damage : Damage) (plan : Plan) (ready : Ready F s damage plan) where
+    pub planned_ready_for : ReadyFor F s damage plan
+    planned_ready_for = gathered_ready plan planned_as_met.planned
+
+    pub planned_ready : Ready F s plan
+    planned_ready =
+        let e : damage ≡ plan.choice.damage = sym planned_as_met.damage_is in
+        record {
+          fit = fit;
+          few = few;
+          data_rows_are = ap (λ (z : Sizes). z.data_rows) planned_as_met.sizes_are;
+          parity_rows_are = ap (λ (z : Sizes). z.parity_rows) planned_as_met.sizes_are;
+          flags_are = subst (λ (d : Damage). (row : ℕ) → row < k s + p s → flag d row ≡ sound F s row) e flags_of;
+          planned = subst (λ (d : Damage). Planned F (k s) (p s) (flag d) plan) e planned_as_met.planned;
+        }
+
+module _ {X : Type 0} (F : Field X) (s : State X) (damage : Damage) (plan : Plan) (ready : ReadyFor F s damage plan) where
   fit : fits F s ≡ true
   fit = ready.fit
 
@@ -79,10 +93,10 @@ module _ {X : Type 0} (F : Field X) (s : State X) (damage : Damage) (plan : Plan
   enough_of = enough_rows F s few damage flag_is
 
   -- the weights of a row, as promised for rows that fit
-  pub weights_here : (row : ℕ) (weights : ℕ → X)
+  pub weights_for : (row : ℕ) (weights : ℕ → X)
       → (RowsFit F s.sizes → LostBelow (k s) plan → row < k s + p s → (source : ℕ) → source < k s + p s → weights source ≡ weight_of F (k s) on plan row source)
       → row < k s + p s → (source : ℕ) → source < k s + p s → weights source ≡ weight_of F (k s) on plan row source
-  weights_here row weights are = are (rows_fit F s fit) (λ b h. (planned.picks b h).below)
+  weights_for row weights are = are (rows_fit F s fit) (λ b h. (planned.picks b h).below)
 
   used_here : (i : ℕ) → i < p s → used F s i ≡ true → used_by F (k s) on i ≡ true
   used_here i h u =
@@ -150,12 +164,38 @@ module _ {X : Type 0} (F : Field X) (s : State X) (damage : Damage) (plan : Plan
     misfit_none i e = none_lowest (n s) (worked_misfit F s blocks i) (λ place l. ap (λ b. b && differ F (combination F (k s) (λ j. blocks j place) i) (symbol_at F s (k s + i) place)) e)
 
     -- a used parity row fits
-    pub misfit_used : (i : ℕ) → i < p s → sound F s (k s + i) ≡ true → ltb (counted i (λ h. on (k s + h))) plan.choice.lost.count ≡ true
+    pub misfit_used_for : (i : ℕ) → i < p s → sound F s (k s + i) ≡ true → ltb (counted i (λ h. on (k s + h))) plan.choice.lost.count ≡ true
         → lowest (n s) (worked_misfit F s blocks i) ≡ None
-    misfit_used i h e less =
+    misfit_used_for i h e less =
         none_lowest (n s) (worked_misfit F s blocks i) (λ place l.
         let fits_there = same_differ F _ _ (sym (ap (symbol_or F.zer) (w.solves i place h l is_used))) in
         ap₂ (λ a b. a && b) e fits_there)
       where
         is_used : used F s i ≡ true
         is_used = and_from _ _ e (lt-ltb _ _ (omega (arith, goods i (omega arith), bads, planned.count, ltb-true (counted i (λ h. on (k s + h))) plan.choice.lost.count less)))
+
+-- a plan that is ready by its own sizes and damage
+module _ {X : Type 0} (F : Field X) (s : State X) (plan : Plan) (ready : Ready F s plan) where
+  -- it is so by its damage, wherever that comes from
+  pub ready_for : ReadyFor F s plan.choice.damage plan
+  ready_for = record { fit = ready.fit; few = ready.few; flags_are = ready.flags_are; planned = ready.planned }
+
+  -- the weights of a row, by the plan's sizes and by the state's
+  pub weights_here : (row : ℕ) (weights : ℕ → X)
+      → (RowsFit F plan.choice.sizes → row < plan.choice.sizes.data_rows + plan.choice.sizes.parity_rows → (source : ℕ) → source < plan.choice.sizes.data_rows + plan.choice.sizes.parity_rows
+      → weights source ≡ weight_of F plan.choice.sizes.data_rows (flag plan.choice.damage) plan row source)
+      → row < k s + p s → (source : ℕ) → source < k s + p s → weights source ≡ weight_of F (k s) (flag plan.choice.damage) plan row source
+  weights_here row weights are h source l =
+      let a = ready.data_rows_are in
+      let b = ready.parity_rows_are in
+      let rows = rows_fit F s ready.fit in
+      let fits_too : RowsFit F plan.choice.sizes = record { few = rw a rows.few; four = rw b rows.four; room = rw a rows.room } in
+      are fits_too (rw (a, b) h) source (rw (a, b) l) ∙ ap (λ (z : ℕ). weight_of F z (flag plan.choice.damage) plan row source) a
+
+  -- a used parity row fits, used by the plan's sizes
+  pub misfit_used : (blocks : ℕ → ℕ → X) → Worked F s blocks → (i : ℕ) → i < p s → sound F s (k s + i) ≡ true
+      → ltb (counted i (λ h. flag plan.choice.damage (plan.choice.sizes.data_rows + h))) plan.choice.lost.count ≡ true
+      → lowest (n s) (worked_misfit F s blocks i) ≡ None
+  misfit_used blocks w i h e says =
+      misfit_used_for F s plan.choice.damage plan ready_for blocks w i h e
+      (subst (λ (z : ℕ). ltb (counted i (λ h. flag plan.choice.damage (z + h))) plan.choice.lost.count ≡ true) ready.data_rows_are says)

@@ -68,9 +68,19 @@ pub record PlannedFor {X : Type 0} (F : Field X) (sizes : Sizes) (damage : Damag
   pub damage_is : plan.choice.damage ≡ damage
   pub planned : Planned F sizes.data_rows sizes.parity_rows (flag damage) plan
 
--- A state that the plan can mend: it fits, no more rows are not sound than there are parity rows, the damage says which rows are sound, and the plan is
--- for as many data rows and parity rows, and for these. Which sizes and damage the plan itself holds is not asked.
-pub record Ready {X : Type 0} (F : Field X) (s : State X) (damage : Damage) (plan : Plan) : Type 0 where
+-- A state that the plan can mend: it fits, no more rows are not sound than there are parity rows, and the plan is for as many data rows and parity
+-- rows, and for the rows that are sound.
+pub record Ready {X : Type 0} (F : Field X) (s : State X) (plan : Plan) : Type 0 where
+  pub fit : fits F s ≡ true
+  pub few : unsound_count F s ≤ p s
+  pub data_rows_are : plan.choice.sizes.data_rows ≡ k s
+  pub parity_rows_are : plan.choice.sizes.parity_rows ≡ p s
+  pub flags_are : (row : ℕ) → row < k s + p s → flag plan.choice.damage row ≡ sound F s row
+  pub planned : Planned F (k s) (p s) (flag plan.choice.damage) plan
+
+-- A state that the plan can mend by the damage that goes beside it: the damage says which rows are sound, and the plan is for as many data rows and
+-- parity rows, and for these. Which sizes and damage the plan itself holds is not asked.
+pub record ReadyFor {X : Type 0} (F : Field X) (s : State X) (damage : Damage) (plan : Plan) : Type 0 where
   pub fit : fits F s ≡ true
   pub few : unsound_count F s ≤ p s
   pub flags_are : (row : ℕ) → row < k s + p s → flag damage row ≡ sound F s row

@@ -13,7 +13,7 @@ ghost use Rattle.rules.specs.Updates.{Worked, worked_misfit, mended_cells};
 ghost use Rattle.rules.specs.Views.{element_at, seen, seen_contents};
 ghost use Rattle.shelves.specs.Puts.{PutsAt, places_of};
 ghost use Rattle.rules.specs.Order.{whole_places, mended_places};
-ghost use Rattle.mending.specs.Plans.{flag, Gathered, Ready};
+ghost use Rattle.mending.specs.Plans.{flag, Gathered, Ready, ReadyFor};
 ghost use Rattle.mending.specs.Puts.{weighted_sum, block_cells, row_cells};
 ghost use Rattle.mending.specs.Stored.{stored as stored_at};
 
@@ -162,7 +162,7 @@ fn row_misfit<S: Shelf>(
 where
     S::Symbol: Field,
     ensures { let F = S.Symbol.Field.algebra in let s = shown S.Shelf.contents S.Symbol.Field.meaning group.now in
-        Ready F s damage.now plan.now → i < group.now.sizes.parity_rows → (blocks : ℕ → ℕ → Below S.Symbol.Field.size) → Worked F s blocks → result ≡ lowest group.now.sizes.block_length (worked_misfit F s blocks i) }
+        ReadyFor F s damage.now plan.now → i < group.now.sizes.parity_rows → (blocks : ℕ → ℕ → Below S.Symbol.Field.size) → Worked F s blocks → result ≡ lowest group.now.sizes.block_length (worked_misfit F s blocks i) }
 {
     let row = group.sizes.parity_row(i);
     if !damage.is_sound(row) || plan.is_used(group.sizes, damage, i) {
@@ -173,8 +173,8 @@ where
 }
 
 // The first place of the first sound parity row that does not fit the data rows as worked, by parity row and then by place of the block. The parity row
-// is named by its index i, not by its row k + i.
-pub fn first_worked_misfit<S: Shelf>(
+// is named by its index i, not by its row k + i. Which rows are sound is said by the damage beside the plan.
+pub fn first_worked_misfit_for<S: Shelf>(
     group: &Group<'_, S>,
     damage: &Damage,
     plan: &Plan,
@@ -182,22 +182,32 @@ pub fn first_worked_misfit<S: Shelf>(
 where
     S::Symbol: Field,
     ensures { let F = S.Symbol.Field.algebra in let s = shown S.Shelf.contents S.Symbol.Field.meaning group.now in
-        Ready F s damage.now plan.now → (blocks : ℕ → ℕ → Below S.Symbol.Field.size) → Worked F s blocks → result ≡ lowest_pair group.now.sizes.parity_rows group.now.sizes.block_length (worked_misfit F s blocks) }
+        ReadyFor F s damage.now plan.now → (blocks : ℕ → ℕ → Below S.Symbol.Field.size) → Worked F s blocks → result ≡ lowest_pair group.now.sizes.parity_rows group.now.sizes.block_length (worked_misfit F s blocks) }
 {
     (0..group.sizes.parity_rows).find_map(|i| {
         row_misfit(group, damage, plan, i).map(|place| (i, place))
     })
 }
 
-// Puts every row that is not sound, block and card: lost data rows as worked, and parity rows from all data rows.
-pub fn put_rows<S: Shelf>(group: &mut GroupMut<'_, S>, damage: &Damage, plan: &Plan)
+// The same by the damage that the plan is made for.
+pub fn first_worked_misfit<S: Shelf>(group: &Group<'_, S>, plan: &Plan) -> Option<(usize, usize)>
+where
+    S::Symbol: Field,
+    ensures { let F = S.Symbol.Field.algebra in let s = shown S.Shelf.contents S.Symbol.Field.meaning group.now in
+        Ready F s plan.now → (blocks : ℕ → ℕ → Below S.Symbol.Field.size) → Worked F s blocks → result ≡ lowest_pair group.now.sizes.parity_rows group.now.sizes.block_length (worked_misfit F s blocks) }
+{
+    first_worked_misfit_for(group, plan.damage(), plan)
+}
+
+// Puts every row that the damage beside the plan says is not sound, block and card: lost data rows as worked, and parity rows from all data rows.
+pub fn put_rows_for<S: Shelf>(group: &mut GroupMut<'_, S>, damage: &Damage, plan: &Plan)
 where
     S::Symbol: Field,
     ensures same { SameGroup group.old group.new }
     ensures mended { let F = S.Symbol.Field.algebra in let meaning = S.Symbol.Field.meaning in let s = seen meaning group.old.sizes (S.Shelf.contents group.old.shelf.now) in
-        Ready F s damage.now plan.now → (blocks : ℕ → ℕ → Below S.Symbol.Field.size) → Worked F s blocks → seen_contents meaning (S.Shelf.contents group.new.shelf.now) ≡ (with_cells s (mended_cells F s blocks)).contents }
+        ReadyFor F s damage.now plan.now → (blocks : ℕ → ℕ → Below S.Symbol.Field.size) → Worked F s blocks → seen_contents meaning (S.Shelf.contents group.new.shelf.now) ≡ (with_cells s (mended_cells F s blocks)).contents }
     ensures puts { let F = S.Symbol.Field.algebra in let s = seen S.Symbol.Field.meaning group.old.sizes (S.Shelf.contents group.old.shelf.now) in
-        Ready F s damage.now plan.now → PutsAt S.Shelf.stores group.old.shelf.now (mended_places F s (group.old.sizes.data_rows + group.old.sizes.parity_rows)) group.new.shelf.now }
+        ReadyFor F s damage.now plan.now → PutsAt S.Shelf.stores group.old.shelf.now (mended_places F s (group.old.sizes.data_rows + group.old.sizes.parity_rows)) group.new.shelf.now }
 {
     for row in 0..group.sizes.rows() {
         if !damage.is_sound(row) {
@@ -205,4 +215,17 @@ where
             worked.put(group);
         }
     }
+}
+
+// The same by the damage that the plan is made for.
+pub fn put_rows<S: Shelf>(group: &mut GroupMut<'_, S>, plan: &Plan)
+where
+    S::Symbol: Field,
+    ensures same { SameGroup group.old group.new }
+    ensures mended { let F = S.Symbol.Field.algebra in let meaning = S.Symbol.Field.meaning in let s = seen meaning group.old.sizes (S.Shelf.contents group.old.shelf.now) in
+        Ready F s plan.now → (blocks : ℕ → ℕ → Below S.Symbol.Field.size) → Worked F s blocks → seen_contents meaning (S.Shelf.contents group.new.shelf.now) ≡ (with_cells s (mended_cells F s blocks)).contents }
+    ensures puts { let F = S.Symbol.Field.algebra in let s = seen S.Symbol.Field.meaning group.old.sizes (S.Shelf.contents group.old.shelf.now) in
+        Ready F s plan.now → PutsAt S.Shelf.stores group.old.shelf.now (mended_places F s (group.old.sizes.data_rows + group.old.sizes.parity_rows)) group.new.shelf.now }
+{
+    put_rows_for(group, plan.damage(), plan);
 }

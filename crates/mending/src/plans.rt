@@ -91,7 +91,7 @@ impl Plan {
     ghost use Rattle.algebra.specs.Theorems.{coefficient as coefficient_of};
     ghost use Rattle.rules.specs.Search.{counted};
     ghost use Rattle.rules.specs.States.{State, fits, unsound_count};
-    ghost use Rattle.mending.specs.Plans.{flag, Gathered, RowsFit, LostBelow, PlannedFor, Ready, weight_in, weight_of};
+    ghost use Rattle.mending.specs.Plans.{flag, Gathered, RowsFit, LostBelow, PlannedFor, Ready, ReadyFor, weight_in, weight_of};
     ghost use Rattle.mending.specs.Stored.{stored as stored_at};
 
     // How the lost data rows follow from the sound ones and from as many parity rows, the lowest that are sound.
@@ -100,7 +100,9 @@ impl Plan {
             → counted sizes.data_rows (λ j. not (flag damage j)) ≤ counted sizes.parity_rows (λ i. flag damage (sizes.data_rows + i))
             → PlannedFor F.Field.algebra sizes damage result }
         ensures ready { (s : State (Below F.Field.size)) → s.sizes ≡ sizes → fits F.Field.algebra s ≡ true → unsound_count F.Field.algebra s ≤ sizes.parity_rows → Gathered F.Field.algebra s damage
-            → Ready F.Field.algebra s damage result }
+            → Ready F.Field.algebra s result }
+        ensures ready_for { (s : State (Below F.Field.size)) → s.sizes ≡ sizes → fits F.Field.algebra s ≡ true → unsound_count F.Field.algebra s ≤ sizes.parity_rows → Gathered F.Field.algebra s damage
+            → ReadyFor F.Field.algebra s damage result }
     {
         let choice = Choice::new(sizes, damage);
         let mut weights = [[0; 4]; 68];
@@ -109,6 +111,13 @@ impl Plan {
             *worked = choice.working::<F>(row);
         }
         Plan { choice, weights }
+    }
+
+    // The damage that the plan is made for.
+    pub(crate) fn damage(&self) -> &Damage
+        ensures { result.now ≡ self.now.choice.damage }
+    {
+        &self.choice.damage
     }
 
     // The weight of a row in the lost data row of a rank.

@@ -326,14 +326,14 @@ where
             return Err(Refusal::TooManyUnsound(damage.count));
         }
         let plan = Plan::new::<S::Symbol>(self.sizes, damage);
-        if let Some((i, place)) = mending::first_worked_misfit(&self.group(), &damage, &plan) {
+        if let Some((i, place)) = mending::first_worked_misfit_for(&self.group(), &damage, &plan) {
             return Err(Refusal::Misfit(self.sizes.parity_row(i), place));
         }
         let mut group = GroupMut {
             shelf: &mut self.shelf,
             sizes: self.sizes,
         };
-        mending::put_rows(&mut group, &damage, &plan);
+        mending::put_rows_for(&mut group, &damage, &plan);
         Ok(damage.count)
     }
 }

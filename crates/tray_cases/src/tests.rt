@@ -1,4 +1,5 @@
 mod calls;
+mod mended;
 mod rounds;
 mod written;
 

@@ -8,7 +8,7 @@ use Rattle.rows.specs.Shown.{shown}
 use Rattle.mending.specs.Plans.{flag, weight_of}
 use Rattle.mending.specs.Puts.{weighted_sum}
 use Rattle.mending.specs.Stored.{stored}
-use Rattle.mending.proofs.Stating.{flag_is, weights_here, misfit_none, misfit_used, misfit_found}
+use Rattle.mending.proofs.Stating.{flag_is, weights_for, misfit_none, misfit_used_for, misfit_found}
 use Rattle.mending.proofs.row_misfit.Goals as goal
 use Rattle.mending.proofs.row_misfit.Goals.{then-not-is_sound-via-then-not-is_sound, then-not-is_sound-via-else-not-is_sound+then-is_used}
 
@@ -26,7 +26,7 @@ returns-then-not-is_sound g c ready h blocks w =
       | then-not-is_sound-via-then-not-is_sound v ↦ sym (misfit_none F s damage plan ready blocks w c.args.i (says ∙ v.if-not-is_sound.true))
       | then-not-is_sound-via-else-not-is_sound+then-is_used v ↦
           let few : sizes.data_rows + c.args.i ≤ 68 = omega (arith, f.k_high, f.p_high) in
-          sym (misfit_used F s damage plan ready blocks w c.args.i h (says ∙ v.if-not-is_sound.false) (sym (v.is_used.ensures few) ∙ v.if-is_used.true))
+          sym (misfit_used_for F s damage plan ready blocks w c.args.i h (says ∙ v.if-not-is_sound.false) (sym (v.is_used.ensures few) ∙ v.if-is_used.true))
     ]
 
 pub returns : goal.returns
@@ -48,4 +48,4 @@ returns g c ready h blocks w =
     ∙ ap (λ (row : ℕ). lowest sizes.block_length (λ place. differ F (weighted_sum F meaning held weights (sizes.data_rows + sizes.parity_rows) place) (element_at F meaning held row place))) (c.worked_row.ensures.row ∙ at)
     ∙ misfit_found F s damage plan ready blocks w c.args.i h on weights
     (λ source o.
-    weights_here F s damage plan ready c.parity_row-row.result weights c.worked_row.ensures.weights (omega arith) source o ∙ ap (λ (r : ℕ). weight_of F sizes.data_rows (flag damage) plan r source) at)
+    weights_for F s damage plan ready c.parity_row-row.result weights c.worked_row.ensures.weights (omega arith) source o ∙ ap (λ (r : ℕ). weight_of F sizes.data_rows (flag damage) plan r source) at)

@@ -41,9 +41,9 @@ returns-in-Some g c =
     let fit = c.in_ok-ready.ensures.0 in
     let gathered = (rw (c.group.ensures.sizes, c.group.ensures.shelf) at c.gather-damage.ensures) fit in
     let few : unsound_count F s ≤ p s = omega (arith, gathered.count, c.if-damage-self.false) in
-    let ready = c.new-plan.ensures.ready (new s.sizes s.contents) refl fit few gathered in
-    let found = (rw (c.group-2.ensures.sizes, c.group-2.ensures.shelf) at c.first_worked_misfit.ensures) ready in
-    clauses F s _ _ (mend_misfit F s fit c.in_ok-ready.ensures.1 few c.first_worked_misfit.result found c.in-Some.i c.in-Some.place c.parity_row.result c.parity_row.ensures c.in-Some.is) tt (no_puts _ _) refl
+    let ready = c.new-plan.ensures.ready_for (new s.sizes s.contents) refl fit few gathered in
+    let found = (rw (c.group-2.ensures.sizes, c.group-2.ensures.shelf) at c.first_worked_misfit_for.ensures) ready in
+    clauses F s _ _ (mend_misfit F s fit c.in_ok-ready.ensures.1 few c.first_worked_misfit_for.result found c.in-Some.i c.in-Some.place c.parity_row.result c.parity_row.ensures c.in-Some.is) tt (no_puts _ _) refl
 
 pub returns : goal.returns
 returns g c =
@@ -52,7 +52,7 @@ returns g c =
     let fit = c.in_ok-ready.ensures.0 in
     let gathered = (rw (c.group.ensures.sizes, c.group.ensures.shelf) at c.gather-damage.ensures) fit in
     let few : unsound_count F s ≤ p s = omega (arith, gathered.count, c.if-damage-self.false) in
-    let ready = c.new-plan.ensures.ready (new s.sizes s.contents) refl fit few gathered in
-    let found = (rw (c.group-2.ensures.sizes, c.group-2.ensures.shelf) at c.first_worked_misfit.ensures) ready in
-    let puts = c.put_rows.ensures.puts ready in
-    clauses F s _ _ (mend_done F s fit c.in_ok-ready.ensures.1 few c.first_worked_misfit.result found c.in_default.is c.gather-damage.result.count gathered.count _ (c.put_rows.ensures.mended ready)) puts (record { places = _; puts = puts }) tt
+    let ready = c.new-plan.ensures.ready_for (new s.sizes s.contents) refl fit few gathered in
+    let found = (rw (c.group-2.ensures.sizes, c.group-2.ensures.shelf) at c.first_worked_misfit_for.ensures) ready in
+    let puts = c.put_rows_for.ensures.puts ready in
+    clauses F s _ _ (mend_done F s fit c.in_ok-ready.ensures.1 few c.first_worked_misfit_for.result found c.in_default.is c.gather-damage.result.count gathered.count _ (c.put_rows_for.ensures.mended ready)) puts (record { places = _; puts = puts }) tt

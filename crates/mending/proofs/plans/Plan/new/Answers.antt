@@ -1,12 +1,11 @@
 use Rattle.std.proofs.Common.{◌≡◌, ◌≤◌, ◌<◌, ◌+◌, List, ℕ, [], length, ◌++◌, drop, replicate, sym, ap, ◌∙◌, subst, subst₂, arith, rules}
 use Rattle.std.proofs.lemmas.List.{get_or_append_left}
-use Rattle.rules.specs.States.{unsound_count}
 use Rattle.rules.specs.declared.Sizes.{Sizes}
 use Rattle.rules.proofs.Counted.{counted_not}
 use Rattle.mending.specs.declared.Damage.{Damage}
 use Rattle.mending.specs.Plans.{flag, RowsFit, WorkedBy}
 use Rattle.mending.proofs.Planning.{planned_by, Weights}
-use Rattle.mending.proofs.Stating.{planned_ready}
+use Rattle.mending.proofs.Stating.{planned_ready, planned_ready_for}
 use Rattle.mending.proofs.plans.Plan.new.Goals as goal
 
 pub returns-clause-planned : goal.returns-clause-planned
@@ -36,4 +35,8 @@ returns-clause-planned g c fit enough =
 
 pub returns-clause-ready : goal.returns-clause-ready
 returns-clause-ready g c s same fit few gathered =
-    planned_ready g.F.Field.algebra s fit (subst (λ (z : Sizes). unsound_count g.F.Field.algebra s ≤ z.parity_rows) (sym same) few) c.args.damage gathered c.args.sizes (record { choice = c.new-choice.result; weights = c.loop-row.worked-items ++ drop c.min.result (replicate 68 (replicate 4 0)) }) same (returns-clause-planned g c)
+    planned_ready g.F.Field.algebra s fit (omega (arith, few, ap (λ (z : Sizes). z.parity_rows) same)) c.args.damage gathered c.args.sizes _ same (returns-clause-planned g c)
+
+pub returns-clause-ready_for : goal.returns-clause-ready_for
+returns-clause-ready_for g c s same fit few gathered =
+    planned_ready_for g.F.Field.algebra s fit (omega (arith, few, ap (λ (z : Sizes). z.parity_rows) same)) c.args.damage gathered c.args.sizes _ same (returns-clause-planned g c)

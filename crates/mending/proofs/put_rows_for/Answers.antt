@@ -7,10 +7,10 @@ use Rattle.rules.specs.Order.{mended_places}
 use Rattle.mending.proofs.Ordering.{sound_passed, row_mended}
 use Rattle.mending.specs.Stored.{stored}
 use Rattle.mending.specs.Puts.{row_cells}
-use Rattle.mending.proofs.Stating.{flag_is, weights_here}
+use Rattle.mending.proofs.Stating.{flag_is, weights_for}
 use Rattle.mending.proofs.Putting.{sound_next, put_next, all_mended}
-use Rattle.mending.proofs.put_rows.Goals as goal
-use Rattle.mending.proofs.put_rows.Goals.{then-not-is_sound, else-not-is_sound}
+use Rattle.mending.proofs.put_rows_for.Goals as goal
+use Rattle.mending.proofs.put_rows_for.Goals.{then-not-is_sound, else-not-is_sound}
 
 pub loop-row-init : goal.loop-row-init
 loop-row-init g c = record { same = search rules; held = search rules; puts = λ ready. unput }
@@ -35,7 +35,7 @@ loop-row-preserved g c =
         held = λ ready blocks w.
             let weights = stored F v.worked_row-worked.result.weights in
             rw v.group-is (put_next F meaning sizes before damage plan ready blocks w row h now (c.loop-row.invariant.held ready blocks w) weights
-            (weights_here F s damage plan ready row weights (rw same.sizes at v.worked_row-worked.ensures.weights) h)
+            (weights_for F s damage plan ready row weights (rw same.sizes at v.worked_row-worked.ensures.weights) h)
             (sym (flag_is F s damage plan ready row h) ∙ sym c.is_sound.ensures ∙ v.if-not-is_sound.true) _
             (subst (λ (r : ℕ). r < sizes.data_rows + sizes.parity_rows → Holds F meaning sizes now (row_cells F meaning sizes weights r now) (contents v.put.new.group.shelf.now)) v.worked_row-worked.ensures.row (rw same.sizes at v.put.ensures.cells) h));
         puts = λ ready.

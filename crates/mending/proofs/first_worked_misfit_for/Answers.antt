@@ -2,7 +2,7 @@ use Rattle.std.proofs.Common.{rules, tests}
 use Rattle.rules.specs.Updates.{worked_misfit}
 use Rattle.rules.proofs.Mapped.{lowest_pair_mapped}
 use Rattle.rows.specs.Shown.{shown}
-use Rattle.mending.proofs.first_worked_misfit.Goals as goal
+use Rattle.mending.proofs.first_worked_misfit_for.Goals as goal
 
 pub returns : goal.returns
 returns g c ready blocks w =
